@@ -209,6 +209,26 @@ impl Circuit {
         self.machine.is_some()
     }
 
+    /// No circuit runs: none was started, or it is done.
+    pub(crate) fn over(&self) -> bool {
+        self.machine.as_ref().is_none_or(InboundCircuit::is_done)
+    }
+
+    /// The running exchange's CONNECT went out.
+    pub(crate) fn asked(&self) -> bool {
+        !matches!(self.followed.connect, Connect::Unsent)
+    }
+
+    /// The circuit stands in a punch window.
+    pub(crate) fn punching(&self) -> bool {
+        self.followed.window.is_some()
+    }
+
+    /// The last upgrade deadline armed.
+    pub(crate) fn deadline(&self) -> u64 {
+        self.followed.deadline
+    }
+
     pub(crate) fn claim(&self, conn: u64) -> Option<crate::ledger::Claim> {
         self.machine().circuit_claim(ConnectionId(conn))
     }

@@ -80,17 +80,12 @@ enum Call {
 
 pub fn run(input: &[u8], out: &mut impl Write) -> io::Result<()> {
     let mut lines = text::lines(input);
-    let Some(settings) = lines.next().flatten().and_then(settings) else {
+    let Some(mut journal) = lines.next().flatten().and_then(Journal::read) else {
         return writeln!(out, "n=0 out=refused why=11");
     };
-    let mut journal = Journal::new(settings);
-    for (at, line) in lines.enumerate() {
-        let answer = match line.and_then(call) {
-            None => Err(11),
-            Some((at, call)) => journal.call(at, call),
-        };
-        let n = at + 1;
-        match answer {
+    for (before, line) in lines.enumerate() {
+        let n = before + 1;
+        match journal.line(line) {
             Err(why) => writeln!(out, "n={n} out=refused why={why}")?,
             Ok(effects) if effects.is_empty() => writeln!(out, "n={n} out=none")?,
             Ok(effects) => {
@@ -212,9 +207,9 @@ fn told(words: &mut Words<'_>, with_pending: bool) -> Option<Told> {
     })
 }
 
-struct Journal {
+pub(crate) struct Journal {
     config: NatConfig,
-    circuit: Circuit,
+    pub(crate) circuit: Circuit,
     source: u64,
     /// Rows of the ledger's tables, and every number that a line named.
     dials: BTreeSet<u64>,
@@ -239,7 +234,14 @@ impl Journal {
         }
     }
 
-    fn call(&mut self, at: u64, call: Call) -> Result<Vec<String>, u8> {
+    /// A journal begun by its settings line.
+    pub(crate) fn read(line: &[u8]) -> Option<Self> {
+        settings(line).map(Self::new)
+    }
+
+    /// Answers a line; `None` is one over the length or without a line feed.
+    pub(crate) fn line(&mut self, line: Option<&[u8]>) -> Result<Vec<String>, u8> {
+        let (at, call) = line.and_then(call).ok_or(11)?;
         if let Some(why) = self.refusal(at, &call) {
             return Err(why);
         }

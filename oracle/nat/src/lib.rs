@@ -10,6 +10,7 @@ pub(crate) use types::Path;
 mod agent;
 mod bursts;
 mod circuit;
+pub mod compare;
 pub mod generate;
 pub mod journal;
 pub mod lines;

@@ -1,13 +1,15 @@
 //! Inputs made from a seed.
 
-pub mod addresses;
+mod addresses;
 mod budget;
 mod candidate;
+mod journal;
 mod ledger;
 mod message;
 mod rng;
 mod schedule;
 
+pub use journal::journal;
 pub use rng::Rng;
 
 /// The cases named one by one, then `count` random lines; `None` for an
