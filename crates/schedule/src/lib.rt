@@ -1,10 +1,12 @@
 // The instants of a window at which the chosen addresses are sent to (inbound.rs, BlastSchedule), counted without a loop.
 ghost use mathlib.Core.Path.{_≡_};
-ghost use Prim.Native.Nat.{min, max};
-ghost use lib.ListN.{drop};
+ghost use Prim.Native.Nat.{ℕ, _+_, _*_, _≤_, _<_, min, max};
+ghost use mathlib.Core.List.{List};
+ghost use lib.ListN.{length, getD, drop};
 ghost use Rattle.time.specs.Time.{last};
 ghost use Rattle.schedule.specs.Instants.{halfOf, startOf, instants, countTo};
 ghost use Rattle.schedule.specs.Schedule.{scheduleOf, dueOf, windowOf, openedOf, nextOf};
+ghost use Rattle.schedule.specs.Readings.{none, largestOf, counted, sumAll, Once, FirstWithReply};
 
 pub enum BlastSchedule {
     // The next instant, and the window's end.
@@ -136,3 +138,30 @@ impl BlastSchedule {
         }
     }
 }
+
+// The list of instants has start + k·i for each k for which that is no later than the end, in the order of k, and nothing else.
+pub fn every_instant()
+    ensures listed { λ r. ⌜ ((start i end k : ℕ) → start + k * max i 1 ≤ end → k < length (instants start i end)) ⌝ }
+    ensures no_other { λ r. ⌜ ((start i end k : ℕ) → k < length (instants start i end) → (getD (instants start i end) k 0 ≡ start + k * max i 1) × (start + k * max i 1 ≤ end)) ⌝ }
+{}
+
+// Over any readings in any order, the counts add up to the instants no later than the end and the largest reading, with the first at
+// round trip 0 in any case.
+pub fn counts_add_up()
+    ensures { λ r. ⌜ ((start until i rtt : ℕ) (ats : List ℕ) → counted i start until rtt (largestOf none ats) ≤ last → sumAll start until i rtt ats ≡ counted i start until rtt (largestOf none ats)) ⌝ }
+{}
+
+// The only input whose count does not fit 64 bits.
+pub fn count_fits()
+    ensures { λ r. ⌜ ((start until i at : ℕ) → until ≤ last → last < countTo at (instants start i until) → (start ≡ 0) × (until ≡ last) × (i ≤ 1) × (last ≤ at)) ⌝ }
+{}
+
+// At round trip 0 the first instant is counted with the reply, and never again.
+pub fn first_with_reply()
+    ensures { λ r. ⌜ ((start until i : ℕ) → start ≤ until → FirstWithReply start until i) ⌝ }
+{}
+
+// No instant is counted twice.
+pub fn no_instant_twice()
+    ensures { λ r. ⌜ ((start until i rtt : ℕ) (ats : List ℕ) → Once start until i rtt ats) ⌝ }
+{}

@@ -11,7 +11,7 @@ min-requires : tie.Need-min-requires
 min-requires c κs = search needs
 
 returns : tie.Need-returns
-returns c = due-none (c .before .before .args .at) (c .before .before .args .until) (c .before .before .args .interval) (c .before .before .args .now) (c .before .min .result) (c .before .min .ensures) (c .if1 .taken)
+returns c = due-none (c .before .before .args .at) (c .before .before .args .until) (c .before .before .args .interval) (c .before .before .args .now) (c .before .min .result) (c .before .min .ensures) (omega arith)
 
 step-requires : tie.Need-step-requires
 step-requires c κs = search needs
