@@ -13,9 +13,8 @@ use Rattle.rows.specs.declared.Entry.{Entry}
 use Rattle.rows.specs.declared.Row.{Row}
 use Rattle.rows.specs.declared.Table.{Table}
 use Rattle.rows.specs.declared.Found.the-variants.{At, Nothing}
-use Rattle.rows.specs.declared.Keep.{Keep}
 use Rattle.rows.specs.declared.Keep.the-variants.{Other}
-use Rattle.rows.specs.Rows.{free, live, tableOf, findIn, keepsRow, kept}
+use Rattle.rows.specs.Rows.{free, rowsOf, tableOf, findIn, keepsRow, such, kept}
 use Rattle.rows.proofs.Fill.{Filled, take-over, take-padded}
 
 pub not-no : (b : Bool) → not b ≡ no b
@@ -47,49 +46,59 @@ pub find-end : (key : ℕ) (xs : List Row) (i : ℕ) → length xs ≤ i → fin
 unfolding findIn
 find-end key xs i h = simp (drop-of-length-le xs h)
 
-pub kept-append : (p : Keep) (a b : List Row) → kept p (a ++ b) ≡ kept p a ++ kept p b
-unfolding kept
-kept-append p [] b = refl
-kept-append p (r ∷ a) b = by-test (keepsRow p r) (kept-append p a b)
-  where
-    by-test : (t : Bool) → kept p (a ++ b) ≡ kept p a ++ kept p b → pick t (r ∷ kept p (a ++ b)) (kept p (a ++ b)) ≡ pick t (r ∷ kept p a) (kept p a) ++ kept p b
-    by-test true h = ap (λ (l : List Row). r ∷ l) h
-    by-test false h = h
+module _ {A : Type 0} (p : A → Bool) where
+  pub such-append : (a b : List A) → such p (a ++ b) ≡ such p a ++ such p b
+  unfolding such
+  such-append [] b = refl
+  such-append (x ∷ a) b = by-test (p x) (such-append a b)
+    where
+      by-test : (t : Bool) → such p (a ++ b) ≡ such p a ++ such p b → pick t (x ∷ such p (a ++ b)) (such p (a ++ b)) ≡ pick t (x ∷ such p a) (such p a) ++ such p b
+      by-test true h = ap (λ (l : List A). x ∷ l) h
+      by-test false h = h
 
-module _ (p : Keep) (xs : List Row) (k i : ℕ) (d : Row) (h : i < length (take k xs)) where
-  pub kept-more : keepsRow p (getD xs i d) ≡ true → kept p (take (i + 1) (take k xs)) ≡ kept p (take i (take k xs)) ++ (getD xs i d ∷ [])
-  unfolding kept
-  kept-more e = simp (one-more xs k i d h, kept-append, e)
+  pub such-≤ : (xs : List A) → length (such p xs) ≤ length xs
+  unfolding such
+  such-≤ [] = omega arith
+  such-≤ (x ∷ xs) = by-test (p x) (such-≤ xs)
+    where
+      by-test : (t : Bool) → length (such p xs) ≤ length xs → length (pick t (x ∷ such p xs) (such p xs)) ≤ suc (length xs)
+      by-test true h = omega arith
+      by-test false h = omega arith
 
-  pub kept-skip : keepsRow p (getD xs i d) ≡ false → kept p (take (i + 1) (take k xs)) ≡ kept p (take i (take k xs))
-  unfolding kept
-  kept-skip e = simp (one-more xs k i d h, kept-append, e, append-nil)
+  module _ (xs : List A) (k i : ℕ) (d : A) (h : i < length (take k xs)) where
+    pub such-more : p (getD xs i d) ≡ true → such p (take (i + 1) (take k xs)) ≡ such p (take i (take k xs)) ++ (getD xs i d ∷ [])
+    unfolding such
+    such-more e = simp (one-more xs k i d h, such-append, e)
+
+    pub such-skip : p (getD xs i d) ≡ false → such p (take (i + 1) (take k xs)) ≡ such p (take i (take k xs))
+    unfolding such
+    such-skip e = simp (one-more xs k i d h, such-append, e, append-nil)
 
 -- ---- tables
-pub live-tableOf : (rs : List Row) → live (tableOf rs) ≡ take 64 rs
+pub rows-tableOf : (rs : List Row) → rowsOf (tableOf rs) ≡ take 64 rs
 unfolding tableOf
-live-tableOf rs = take-padded free (take 64 rs)
+rows-tableOf rs = take-padded free (take 64 rs)
 
 pub tableOf-over : (rs qs : List Row) → tableOf (take 64 rs ++ qs) ≡ tableOf (rs ++ qs)
 unfolding tableOf
 tableOf-over rs qs = simp (take-over 64 rs qs)
 
-pub tableOf-live : (rs : List Row) {t : Table} → t ≡ tableOf rs → t ≡ tableOf (live t)
+pub tableOf-rows : (rs : List Row) {t : Table} → t ≡ tableOf rs → t ≡ tableOf (rowsOf t)
 unfolding tableOf
-tableOf-live rs e = e ∙ simp (e, live-tableOf rs, take-take 64 64 rs (omega arith))
+tableOf-rows rs e = e ∙ simp (e, rows-tableOf rs, take-take 64 64 rs (omega arith))
 
 -- a row between two parts
-pub two-parts : (a : List Row) (r : Row) (b : List Row) {t1 t2 t3 : Table} → t1 ≡ tableOf a → t2 ≡ tableOf (live t1 ++ (r ∷ [])) → t3 ≡ tableOf (live t2 ++ b)
+pub two-parts : (a : List Row) (r : Row) (b : List Row) {t1 t2 t3 : Table} → t1 ≡ tableOf a → t2 ≡ tableOf (rowsOf t1 ++ (r ∷ [])) → t3 ≡ tableOf (rowsOf t2 ++ b)
     → t3 ≡ tableOf (a ++ (r ∷ b))
 two-parts a r b {t1} {t2} e1 e2 e3 =
-    let f1 : live t1 ≡ take 64 a = ap live e1 ∙ live-tableOf a in
+    let f1 : rowsOf t1 ≡ take 64 a = ap rowsOf e1 ∙ rows-tableOf a in
     let f2 : t2 ≡ tableOf (a ++ (r ∷ [])) = e2 ∙ ap (λ (l : List Row). tableOf (l ++ (r ∷ []))) f1 ∙ tableOf-over a (r ∷ []) in
-    let f3 : live t2 ≡ take 64 (a ++ (r ∷ [])) = ap live f2 ∙ live-tableOf (a ++ (r ∷ [])) in
+    let f3 : rowsOf t2 ≡ take 64 (a ++ (r ∷ [])) = ap rowsOf f2 ∙ rows-tableOf (a ++ (r ∷ [])) in
     e3 ∙ ap (λ (l : List Row). tableOf (l ++ b)) f3 ∙ tableOf-over (a ++ (r ∷ [])) b ∙ ap tableOf (append-assoc a (r ∷ []) b)
 
 -- ---- a row that is found, and one that is removed
 pub none-removed : (key : ℕ) (rs : List Row) → findIn key rs ≡ Nothing → kept (Other key) rs ≡ rs
-unfolding findIn kept
+unfolding findIn such
 none-removed key [] e = refl
 none-removed key (r ∷ rs) e = go (eqb (r .key) key) (none-removed key rs) e
   where
@@ -97,22 +106,13 @@ none-removed key (r ∷ rs) e = go (eqb (r .key) key) (none-removed key rs) e
     go true f e = let z : _≡_ {A = ℕ} 0 1 = cc in absurd (omega arith)
     go false f e = ap (λ (l : List Row). r ∷ l) (f e)
 
-pub kept-≤ : (p : Keep) (rs : List Row) → length (kept p rs) ≤ length rs
-unfolding kept
-kept-≤ p [] = omega arith
-kept-≤ p (r ∷ rs) = go (keepsRow p r) (kept-≤ p rs)
-  where
-    go : (t : Bool) → length (kept p rs) ≤ length rs → length (pick t (r ∷ kept p rs) (kept p rs)) ≤ suc (length rs)
-    go true h = omega arith
-    go false h = omega arith
-
 pub one-removed : (key : ℕ) (rs : List Row) {x : Entry} → findIn key rs ≡ At x → length (kept (Other key) rs) < length rs
-unfolding findIn kept
+unfolding findIn such
 one-removed key [] e = let z : _≡_ {A = ℕ} 0 1 = cc in absurd (omega arith)
 one-removed key (r ∷ rs) {x} e = go (eqb (r .key) key) (λ (q : findIn key rs ≡ At x). one-removed key rs q) e
   where
     go : (t : Bool) → (findIn key rs ≡ At x → length (kept (Other key) rs) < length rs) → pick t (At (r .entry)) (findIn key rs) ≡ At x → length (pick (no t) (r ∷ kept (Other key) rs) (kept (Other key) rs)) < suc (length rs)
-    go true f e = omega (arith, kept-≤ (Other key) rs)
+    go true f e = omega (arith, such-≤ (keepsRow (Other key)) rs)
     go false f e = omega (arith, f e)
 
 -- ---- a table that is full as far as its count says
@@ -125,12 +125,12 @@ unfolding tableOf
 filled-table f = simp (f .array-is, f .count-is)
 
 -- of such a table the count is that of its rows in use
-module _ (t : Table) (e : t ≡ tableOf (live t)) where
-  live-64 : length (live t) ≡ length (take 64 (live t))
-  live-64 = ap length (ap live e ∙ live-tableOf (live t))
+module _ (t : Table) (e : t ≡ tableOf (rowsOf t)) where
+  rows-64 : length (rowsOf t) ≡ length (take 64 (rowsOf t))
+  rows-64 = ap length (ap rowsOf e ∙ rows-tableOf (rowsOf t))
 
-  pub count-used : t .count ≡ length (live t)
-  count-used = table-filled (live t) e .count-is ∙ sym live-64
+  pub count-used : t .count ≡ length (rowsOf t)
+  count-used = table-filled (rowsOf t) e .count-is ∙ sym rows-64
 
-  pub table-used : Filled free (t .rows) (length (live t)) (live t)
-  table-used = record { array-is = table-filled (live t) e .array-is; count-is = live-64 }
+  pub table-used : Filled free (t .rows) (length (rowsOf t)) (rowsOf t)
+  table-used = record { array-is = table-filled (rowsOf t) e .array-is; count-is = rows-64 }

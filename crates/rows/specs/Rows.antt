@@ -15,8 +15,8 @@ use Rattle.rows.specs.declared.Keep.{Keep}
 use Rattle.rows.specs.declared.Keep.the-variants.{Below, Above, Other, Lasting}
 
 -- the rows in use: the first `count`, and of a count past 64 all
-abbrev pub live : Table → List Row
-live t = take (t .count) (t .rows)
+abbrev pub rowsOf : Table → List Row
+rowsOf t = take (t .count) (t .rows)
 
 -- what stands behind the rows in use
 abbrev pub free : Row
@@ -48,10 +48,13 @@ keepsRow (Above k) r = ltb k (r .key)
 keepsRow (Other k) r = no (eqb (r .key) k)
 keepsRow (Lasting now) r = lasts now (r .entry)
 
--- the rows that are kept, in order
-unfoldable pub kept : Keep → List Row → List Row
-kept p [] = []
-kept p (r ∷ rs) = pick (keepsRow p r) (r ∷ kept p rs) (kept p rs)
+-- those for which the test holds, in order
+unfoldable pub such : {A : Type 0} → (A → Bool) → List A → List A
+such p [] = []
+such p (x ∷ xs) = pick (p x) (x ∷ such p xs) (such p xs)
+
+abbrev pub kept : Keep → List Row → List Row
+kept keep = such (keepsRow keep)
 
 -- the rows of other keys
 abbrev pub without : ℕ → List Row → List Row

@@ -3,7 +3,7 @@ ghost use mathlib.Core.Path.{_≡_};
 ghost use mathlib.Core.List.{_++_, _∷_, []};
 ghost use Prim.Native.Nat.{_≤_};
 ghost use lib.ListN.{length};
-ghost use Rattle.rows.specs.Rows.{free, live, tableOf, kept, keepsRow, findIn, without, inserted, crowded};
+ghost use Rattle.rows.specs.Rows.{free, rowsOf, tableOf, kept, keepsRow, findIn, without, inserted, crowded};
 use path::Attribution;
 use path::Dial;
 
@@ -60,7 +60,7 @@ pub fn empty() -> Table
 
 // How many rows are in use.
 pub fn used(table: Table) -> usize
-    ensures { λ r. ⌜ (r ≡ length (live table)) × (r ≤ 64) ⌝ }
+    ensures { λ r. ⌜ (r ≡ length (rowsOf table)) × (r ≤ 64) ⌝ }
 {
     if table.count < 64 {
         return table.count as usize;
@@ -90,7 +90,7 @@ fn keeps(keep: Keep, row: Row) -> bool
 
 // What the first row with the key says.
 pub fn find(table: Table, key: u64) -> Found
-    ensures { λ r. ⌜ r ≡ findIn key (live table) ⌝ }
+    ensures { λ r. ⌜ r ≡ findIn key (rowsOf table) ⌝ }
 {
     let n = used(table);
     let mut i: usize = 0;
@@ -107,7 +107,7 @@ pub fn find(table: Table, key: u64) -> Found
 
 // Whether a row for the key would be the 65th.
 pub fn is_crowded(table: Table, key: u64) -> bool
-    ensures { λ r. ⌜ r ≡ crowded key (live table) ⌝ }
+    ensures { λ r. ⌜ r ≡ crowded key (rowsOf table) ⌝ }
 {
     if used(table) < 64 {
         return false;
@@ -121,8 +121,8 @@ pub fn is_crowded(table: Table, key: u64) -> bool
 
 // The rows of `out`, and behind them those of `table` that are kept.
 fn append(out: Table, table: Table, keep: Keep) -> Table
-    requires { ⌜ out ≡ tableOf (live out) ⌝ }
-    ensures { λ r. ⌜ r ≡ tableOf (live out ++ kept keep (live table)) ⌝ }
+    requires { ⌜ out ≡ tableOf (rowsOf out) ⌝ }
+    ensures { λ r. ⌜ r ≡ tableOf (rowsOf out ++ kept keep (rowsOf table)) ⌝ }
 {
     let n = used(table);
     let mut m = used(out);
@@ -145,8 +145,8 @@ fn append(out: Table, table: Table, keep: Keep) -> Table
 }
 
 fn push(table: Table, row: Row) -> Table
-    requires { ⌜ table ≡ tableOf (live table) ⌝ }
-    ensures { λ r. ⌜ r ≡ tableOf (live table ++ (row ∷ [])) ⌝ }
+    requires { ⌜ table ≡ tableOf (rowsOf table) ⌝ }
+    ensures { λ r. ⌜ r ≡ tableOf (rowsOf table ++ (row ∷ [])) ⌝ }
 {
     let n = used(table);
     if n < 64 {
@@ -162,21 +162,21 @@ fn push(table: Table, row: Row) -> Table
 
 // The rows that are kept.
 pub fn retain(table: Table, keep: Keep) -> Table
-    ensures { λ r. ⌜ r ≡ tableOf (kept keep (live table)) ⌝ }
+    ensures { λ r. ⌜ r ≡ tableOf (kept keep (rowsOf table)) ⌝ }
 {
     append(empty(), table, keep)
 }
 
 // The rows of other keys.
 pub fn remove(table: Table, key: u64) -> Table
-    ensures { λ r. ⌜ r ≡ tableOf (without key (live table)) ⌝ }
+    ensures { λ r. ⌜ r ≡ tableOf (without key (rowsOf table)) ⌝ }
 {
     retain(table, Keep::Other(key))
 }
 
 // The row in its place; one of its own key gives way.
 pub fn insert(table: Table, row: Row) -> Table
-    ensures { λ r. ⌜ r ≡ tableOf (inserted row (live table)) ⌝ }
+    ensures { λ r. ⌜ r ≡ tableOf (inserted row (rowsOf table)) ⌝ }
 {
     let key = row.key;
     let low = retain(table, Keep::Below(key));

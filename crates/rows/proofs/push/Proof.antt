@@ -1,5 +1,5 @@
 use native.Mathlib.Omega.{arith}
-use Rattle.rows.specs.Rows.{live}
+use Rattle.rows.specs.Rows.{rowsOf}
 use Rattle.rows.proofs.Lists.{filled-table, table-filled, table-used, count-used}
 use Rattle.rows.proofs.Fill.{fill-more, fill-full}
 use borrow.Author.Needs.{needs}
@@ -26,7 +26,7 @@ returns c =
 returns-2 : tie.Need-returns-2
 returns-2 c =
     let a = c .before .before .args in
-    filled-table (fill-full (table-filled (live (a .table)) (c .before .before .pre)) (a .row) (omega (arith, count-used (a .table) (c .before .before .pre))))
+    filled-table (fill-full (table-filled (rowsOf (a .table)) (c .before .before .pre)) (a .row) (omega (arith, count-used (a .table) (c .before .before .pre))))
 
 pub push-spec : {M : Type 1} → statement M
 push-spec =
