@@ -8,14 +8,25 @@ use native.Mathlib.Nat.{add-zero}
 use native.Mathlib.Numerals.{add-one}
 use native.Mathlib.Omega.{arith}
 use lib.Dec.{ltb}
-use lib.ListN.{length, getD, take, drop, set, length-append, drop-of-length-le}
-use lib.Seq.{sets, set-out, take-suc, take-all, length-sets}
+use lib.ListN.{length, getD, take, drop, set, length-append, drop-of-length-le, length-drop}
+use lib.Seq.{sets, set-out, take-suc, take-all, length-sets, sets-eq, take-append-seam}
 use borrow.Author.Tests.{lt-ltb, le-ltb, ltb-true, ltb-false}
 use Rattle.prelude.specs.Choice.{pick}
-use Rattle.text.specs.Printed.{Laid}
+use Rattle.text.specs.Printed.{printed, behind}
 use Rattle.text.specs.Hexadecimal.{hexadecimal, digitOf, digitValue, bytesOf, bytesText}
 use Rattle.text.specs.Decimal.{digitsOf, decimal}
 use Rattle.text.proofs.Reading.{at, two}
+
+-- what a printer's contract says, as one fact
+pub record Laid (buffer : List ℕ) (at : ℕ) (text : List ℕ) (after : List ℕ) (next : ℕ) : Type 0 where
+  pub bytes : after ≡ printed buffer at text
+  pub place : next ≡ behind buffer at text
+
+pub laid : {x : List ℕ} {q : ℕ} (o : List ℕ) (p : ℕ) (t : List ℕ) → (x ≡ printed o p t) × (q ≡ behind o p t) → Laid o p t x q
+laid o p t f = record { bytes = f .0; place = f .1 }
+
+pub parts : {o : List ℕ} {p : ℕ} {t x : List ℕ} {q : ℕ} → Laid o p t x q → (x ≡ printed o p t) × (q ≡ behind o p t)
+parts l = (l .bytes, l .place)
 
 pub sets-append : (o : List ℕ) (p : ℕ) (a b : List ℕ) → sets o p (a ++ b) ≡ sets (sets o p a) (p + length a) b
 sets-append o p [] b = rw (add-zero p)
@@ -27,10 +38,12 @@ sets-out o p [] h = refl
 sets-out o p (x ∷ a) h = rw (set-out o p x h) (sets-out o (suc p) a (omega arith))
 
 pub laid-none : (o : List ℕ) (p : ℕ) → Laid o p [] o p
+unfolding printed behind
 laid-none o p = record { bytes = refl; place = omega arith }
 
 -- two texts, one behind the other
 pub then : {o : List ℕ} {p : ℕ} {a x : List ℕ} {q : ℕ} {b y : List ℕ} {r : ℕ} → Laid o p a x q → Laid x q b y r → Laid o p (a ++ b) y r
+unfolding printed behind
 then {o} {p} {a} {x} {q} {b} {y} {r} f g =
     let l : length x ≡ length o = ap length (f .bytes) ∙ length-sets o p a in
     record {
@@ -49,13 +62,42 @@ then {o} {p} {a} {x} {q} {b} {y} {r} f g =
         rw z
 
 pub byte-in : (o : List ℕ) (p b : ℕ) → p < length o → Laid o p (b ∷ []) (set o p b) (p + 1)
+unfolding printed behind
 byte-in o p b h = record { bytes = refl; place = omega arith }
 
 pub byte-out : (o : List ℕ) (p b : ℕ) → length o ≤ p → Laid o p (b ∷ []) o p
+unfolding printed behind
 byte-out o p b h = record { bytes = sym (sets-out o p (b ∷ []) h); place = omega arith }
 
 pub length-kept : {o : List ℕ} {p : ℕ} {a x : List ℕ} {q : ℕ} → Laid o p a x q → length x ≡ length o
+unfolding printed behind
 length-kept {o} {p} {a} f = ap length (f .bytes) ∙ length-sets o p a
+
+-- ---- a text from the buffer's first byte
+
+pub in-parts : (o s t : List ℕ) → printed (printed o 0 s) (behind o 0 s) t ≡ printed o 0 (s ++ t)
+in-parts o s t = then (laid o 0 s (refl, refl)) (laid (printed o 0 s) (behind o 0 s) t (refl, refl)) .bytes
+
+pub in-parts-place : (o s t : List ℕ) → behind (printed o 0 s) (behind o 0 s) t ≡ behind o 0 (s ++ t)
+in-parts-place o s t = then (laid o 0 s (refl, refl)) (laid (printed o 0 s) (behind o 0 s) t (refl, refl)) .place
+
+-- where there is room the text stands there whole
+pub fits-place : (o s : List ℕ) → length s ≤ length o → behind o 0 s ≡ length s
+unfolding behind
+fits-place o s h = omega arith
+
+pub fits : (o s : List ℕ) → length s ≤ length o → take (behind o 0 s) (printed o 0 s) ≡ s
+unfolding printed
+fits o s h = rw (fits-place o s h, sets-eq s o 0 (omega arith)) (take-append-seam s (drop (0 + length s) o))
+
+-- where there is none the buffer is full
+pub full-place : (o s : List ℕ) → length o ≤ length s → behind o 0 s ≡ length o
+unfolding behind
+full-place o s h = omega arith
+
+-- what is lent from a place on
+pub rest-of : (s : List ℕ) (p : ℕ) → take (length s - p) (drop p s) ≡ drop p s
+rest-of s p = take-all (length s - p) (drop p s) (omega (arith, length-drop p s))
 
 -- ---- a text, byte by byte
 

@@ -6,7 +6,7 @@ ghost use mathlib.Core.List.{_∷_, [], List};
 ghost use Rattle.text.specs.Words.{begins, isWord, lengthBefore};
 ghost use Rattle.text.specs.Decimal.{most, digitsFrom, decimalOf, decimal};
 ghost use Rattle.text.specs.Hexadecimal.{digitValue, isHexadecimal, bytesOf, digitOf, hexadecimal, bytesText, Bytes};
-ghost use Rattle.text.specs.Printed.{Laid};
+ghost use Rattle.text.specs.Printed.{printed, behind};
 
 // ---- reading
 
@@ -144,7 +144,8 @@ pub fn is_hexadecimal(text: &[u8]) -> bool
 
 // The bytes that hexadecimal stands for, up to the first two bytes that are no digits.
 pub fn read_hexadecimal(text: &[u8], out: &mut [u8], at: usize) -> usize
-    ensures { λ r. ⌜ Laid (now (out .entry)) at (bytesOf (now (text .entry))) (now (out .exit)) r ⌝ }
+    ensures bytes { λ r. ⌜ now (out .exit) ≡ printed (now (out .entry)) at (bytesOf (now (text .entry))) ⌝ }
+    ensures place { λ r. ⌜ r ≡ behind (now (out .entry)) at (bytesOf (now (text .entry))) ⌝ }
 {
     let mut i: usize = 0;
     let mut p = at;
@@ -169,7 +170,8 @@ pub fn read_hexadecimal(text: &[u8], out: &mut [u8], at: usize) -> usize
 // ---- printing: each answers the place behind its text; what the buffer has no room for is left out
 
 pub fn put_byte(b: u8, out: &mut [u8], at: usize) -> usize
-    ensures { λ r. ⌜ Laid (now (out .entry)) at (b ∷ []) (now (out .exit)) r ⌝ }
+    ensures bytes { λ r. ⌜ now (out .exit) ≡ printed (now (out .entry)) at (b ∷ []) ⌝ }
+    ensures place { λ r. ⌜ r ≡ behind (now (out .entry)) at (b ∷ []) ⌝ }
 {
     if at < out.len() {
         out[at] = b;
@@ -179,7 +181,8 @@ pub fn put_byte(b: u8, out: &mut [u8], at: usize) -> usize
 }
 
 pub fn put_text(text: &[u8], out: &mut [u8], at: usize) -> usize
-    ensures { λ r. ⌜ Laid (now (out .entry)) at (now (text .entry)) (now (out .exit)) r ⌝ }
+    ensures bytes { λ r. ⌜ now (out .exit) ≡ printed (now (out .entry)) at (now (text .entry)) ⌝ }
+    ensures place { λ r. ⌜ r ≡ behind (now (out .entry)) at (now (text .entry)) ⌝ }
 {
     let mut i: usize = 0;
     let mut p = at;
@@ -192,7 +195,8 @@ pub fn put_text(text: &[u8], out: &mut [u8], at: usize) -> usize
 
 // A number in decimal.
 pub fn put_decimal(v: u64, out: &mut [u8], at: usize) -> usize
-    ensures { λ r. ⌜ Laid (now (out .entry)) at (decimal v) (now (out .exit)) r ⌝ }
+    ensures bytes { λ r. ⌜ now (out .exit) ≡ printed (now (out .entry)) at (decimal v) ⌝ }
+    ensures place { λ r. ⌜ r ≡ behind (now (out .entry)) at (decimal v) ⌝ }
 {
     if v < 10 {
         return put_byte(b'0' + v as u8, out, at);
@@ -210,7 +214,8 @@ fn digit(d: u8) -> u8
 
 // Bytes in lower-case hexadecimal.
 pub fn put_hexadecimal(bytes: &[u8], out: &mut [u8], at: usize) -> usize
-    ensures { λ r. ⌜ Laid (now (out .entry)) at (hexadecimal (now (bytes .entry))) (now (out .exit)) r ⌝ }
+    ensures bytes { λ r. ⌜ now (out .exit) ≡ printed (now (out .entry)) at (hexadecimal (now (bytes .entry))) ⌝ }
+    ensures place { λ r. ⌜ r ≡ behind (now (out .entry)) at (hexadecimal (now (bytes .entry))) ⌝ }
 {
     let mut i: usize = 0;
     let mut p = at;
@@ -225,7 +230,8 @@ pub fn put_hexadecimal(bytes: &[u8], out: &mut [u8], at: usize) -> usize
 
 // Bytes in lower-case hexadecimal, or `-` where there are none.
 pub fn put_bytes(bytes: &[u8], out: &mut [u8], at: usize) -> usize
-    ensures { λ r. ⌜ Laid (now (out .entry)) at (bytesText (now (bytes .entry))) (now (out .exit)) r ⌝ }
+    ensures bytes { λ r. ⌜ now (out .exit) ≡ printed (now (out .entry)) at (bytesText (now (bytes .entry))) ⌝ }
+    ensures place { λ r. ⌜ r ≡ behind (now (out .entry)) at (bytesText (now (bytes .entry))) ⌝ }
 {
     if bytes.len() == 0 {
         return put_byte(b'-', out, at);
