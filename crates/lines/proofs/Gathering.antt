@@ -13,7 +13,7 @@ use Rattle.prelude.specs.Choice.{pick}
 use Rattle.text.specs.Words.{lengthBefore}
 use Rattle.text.specs.Printed.{printed, behind}
 use Rattle.text.proofs.Reading.{before-within}
-use Rattle.text.proofs.Printing.{Laid, laid-none, rest-of}
+use Rattle.text.proofs.Printing.{Laid, laid-none, rest-of, behind-within}
 use Rattle.lines.specs.Lines.{textFrom, endFrom, gathered}
 use Rattle.lines.specs.declared.Gathered.{Gathered}
 
@@ -58,3 +58,7 @@ forward b from line used {r} e h = let g = go (ltb (endFrom b from) (length b)) 
     go : (t : Bool) → ltb (endFrom b from) (length b) ≡ t → from < pick t (endFrom b from + 1) (endFrom b from)
     go true e = omega arith
     go false e = let l : length b ≤ endFrom b from = ltb-false _ _ e in omega arith
+
+-- the line stays within its buffer
+pub used-within : (b : List ℕ) (from : ℕ) (line : List ℕ) (used : ℕ) {r : Gathered} → r ≡ gathered b from line used → used ≤ length line → r .used ≤ length line
+used-within b from line used {r} e h = omega (arith, ap (λ (f : Gathered). f .used) e, behind-within line used (textFrom b from) h)
