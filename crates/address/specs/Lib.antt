@@ -1,0 +1,4 @@
+pub mod LeadingBits
+pub mod Ranges
+pub mod Words
+pub mod Multiaddr

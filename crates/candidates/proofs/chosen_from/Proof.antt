@@ -1,0 +1,41 @@
+use mathlib.Core.Path.{ap, _∙_}
+use mathlib.Core.List.{[], foldl}
+use native.Mathlib.Omega.{arith}
+use denote.Ref.{now}
+use Rattle.wire.specs.Lists.{entries, listed}
+use Rattle.candidates.specs.Selection.{packed}
+use Rattle.candidates.specs.OnePass.{keptFrom}
+use Rattle.candidates.specs.declared.Limits.{Limits}
+use Rattle.candidates.proofs.Answers.{answer-refused, answer-kept}
+use borrow.Author.Needs.{needs}
+use Rattle.candidates.proofs.chosen_from.Statement.{statement}
+use Rattle.candidates.proofs.chosen_from.Tie as tie
+
+is-broken-requires : tie.Need-is-broken-requires
+is-broken-requires c κs = search needs
+
+nothing-chosen-requires : tie.Need-nothing-chosen-requires
+nothing-chosen-requires c κs = search needs
+
+returns : tie.Need-returns
+returns c = answer-refused (now (c .before .before .before .before .args .list)) _ (c .before .before .is-broken .ensures) (c .before .if1 .taken) (c .nothing-chosen .ensures)
+
+usual-requires : tie.Need-usual-requires
+usual-requires c κs = search needs
+
+choose-requires : tie.Need-choose-requires
+choose-requires c κs = omega (arith, ap (λ (l : Limits). l .total) (c .usual .ensures))
+
+returns-2 : tie.Need-returns-2
+returns-2 c = answer-kept (now (c .before .before .before .before .before .args .list)) _ (c .before .before .before .is-broken .ensures) (c .before .before .if1 .left) (c .choose .ensures ∙ ap (λ (l : Limits). packed (listed (foldl (keptFrom l (c .before .before .before .before .before .args .source)) [] (entries (now (c .before .before .before .before .before .args .list)))))) (c .before .usual .ensures))
+
+pub chosen-from-spec : {M : Type 1} → statement M
+chosen-from-spec =
+    tie.close
+    (tie.spec
+    is-broken-requires
+    nothing-chosen-requires
+    returns
+    usual-requires
+    choose-requires
+    returns-2)

@@ -1,0 +1,4 @@
+pub mod Entries
+pub mod Selection
+pub mod OnePass
+pub mod Laws

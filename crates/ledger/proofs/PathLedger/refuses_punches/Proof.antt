@@ -1,0 +1,15 @@
+use Rattle.ledger.specs.Ledger.{refusesPunches}
+use mathlib.Core.Path.{sym}
+use borrow.Author.Needs.{needs}
+use Rattle.ledger.proofs.PathLedger.refuses_punches.Statement.{statement}
+use Rattle.ledger.proofs.PathLedger.refuses_punches.Tie as tie
+
+is-crowded-requires : tie.Need-is-crowded-requires
+is-crowded-requires c κs = search needs
+
+returns : tie.Need-returns
+unfolding refusesPunches
+returns c = simp (sym (c .is-crowded .ensures))
+
+pub refuses-punches-spec : {M : Type 1} → statement M
+refuses-punches-spec = tie.close (tie.spec is-crowded-requires returns)

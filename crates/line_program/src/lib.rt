@@ -1,0 +1,96 @@
+// What programs that answer standard input line by line share: the next line read, and a text written. No contract can say which bytes
+// come in; these say what holds of all.
+ghost use mathlib.Core.Path.{_≡_};
+ghost use mathlib.Core.Bool.{true};
+ghost use Prim.Native.Nat.{_≤_, min};
+ghost use lib.ListN.{length};
+use libc::STDIN_FILENO;
+use libc::STDOUT_FILENO;
+
+// A line's bytes are the first `used` of its buffer, which a line too long fills. A line feed ended it, or the input ended or failed. The
+// block's bytes from `from` up to `until` are still to be read.
+pub struct Reading {
+    pub used: usize,
+    pub ended: bool,
+    pub more: bool,
+    pub failed: bool,
+    pub from: usize,
+    pub until: usize,
+}
+
+// Reads a block.
+fn fill(block: &mut [u8], used: usize) -> Reading
+    ensures used { λ r. ⌜ r .used ≡ used ⌝ }
+    ensures block { λ r. ⌜ r .until ≤ length (now (block .entry)) ⌝ }
+{
+    let got = libc::read(STDIN_FILENO, block);
+    let n = io::count(got, block);
+    Reading {
+        used: used,
+        ended: false,
+        more: 0 < n,
+        failed: got < 0,
+        from: 0,
+        until: n,
+    }
+}
+
+// Goes on with a line: by what the block has of it, or by a block more.
+fn read_on(block: &mut [u8], line: &mut [u8], s: Reading) -> Reading
+    requires { ⌜ (s .used ≤ length (now line)) × (s .until ≤ length (now block)) ⌝ }
+    ensures used { λ r. ⌜ r .used ≤ length (now (line .entry)) ⌝ }
+    ensures block { λ r. ⌜ r .until ≤ length (now (block .entry)) ⌝ }
+{
+    if s.until <= s.from {
+        return fill(block, s.used);
+    }
+    let until = s.until;
+    let g = lines::gather(&block[..until], s.from, line, s.used);
+    Reading {
+        used: g.used,
+        ended: g.ended,
+        more: true,
+        failed: false,
+        from: g.next,
+        until: until,
+    }
+}
+
+fn least(a: usize, b: usize) -> usize
+    ensures { λ r. ⌜ r ≡ min a b ⌝ }
+{
+    if a < b { a } else { b }
+}
+
+// Reads the next line, up to its line feed or the input's end, where the block's bytes from `from` up to `until` come first. A proved
+// loop has to end, so it counts its turns down from a number that no run uses up.
+pub fn next_line(block: &mut [u8], line: &mut [u8], from: usize, until: usize) -> Reading
+    ensures used { λ r. ⌜ r .used ≤ length (now (line .entry)) ⌝ }
+    ensures block { λ r. ⌜ r .until ≤ length (now (block .entry)) ⌝ }
+{
+    let stop = least(until, block.len());
+    let mut s = Reading {
+        used: 0,
+        ended: false,
+        more: true,
+        failed: false,
+        from: from,
+        until: stop,
+    };
+    let mut turns = u64::MAX;
+    while 0 < turns && s.more && !s.ended {
+        s = read_on(block, line, s);
+        turns -= 1;
+    }
+    s
+}
+
+// Writes the first n bytes of a text to standard output: whether there are so many and all were written.
+pub fn print(text: &[u8], n: usize) -> bool
+    ensures { λ r. ⌜ (r ≡ true → n ≤ length (now (text .entry))) ⌝ }
+{
+    if text.len() < n {
+        return false;
+    }
+    io::write_all(STDOUT_FILENO, &text[..n])
+}
