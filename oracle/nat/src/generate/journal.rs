@@ -781,7 +781,7 @@ fn damage_line(rng: &mut Rng, line: &mut Vec<u8>) {
         0 => {
             line.remove(at);
         }
-        1 => line[at] = rng.next() as u8,
+        1 => line[at] = rng.draw() as u8,
         2 => line.insert(at, line[at]),
         3 => line.insert(at, b' '),
         4 => line.push(b'\r'),
