@@ -99,7 +99,7 @@ unfolding listed
 keep-none l list source e =
     record { got = []; inside = omega arith; bytes-are = ap (λ (c : Chosen). c .bytes) e; len-is = refl; few = omega arith; each = tt; rest = refl }
 
-module _ {l : Limits} (small : l .total ≤ 8) {list : List ℕ} {source : Source} {bytes : List ℕ} {len at : ℕ} (h : Keeping l list source bytes len at) where
+module _ {l : Limits} (small : (longest + 2) * l .total ≤ capacity) {list : List ℕ} {source : Source} {bytes : List ℕ} {len at : ℕ} (h : Keeping l list source bytes len at) where
   pub keep-len : len ≤ (longest + 2) * length (h .got)
   keep-len = omega (arith, listed-long (h .got) (h .each), h .len-is)
 
