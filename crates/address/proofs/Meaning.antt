@@ -1,6 +1,5 @@
 -- The table says of every address what the words say.
 -- Assumes nothing.
--- lo up to hi, hi left out
 use mathlib.Core.Path.{_≡_, refl, sym, ap, _∙_}
 use mathlib.Core.Bool.{Bool, true, false}
 use mathlib.Core.List.{List, [], _∷_}
@@ -25,6 +24,7 @@ use Rattle.address.proofs.LeadingBits.{same-test}
 use Rattle.address.proofs.Longest.{first-verdict}
 use Rattle.address.proofs.CutPoints.{Test, always, from, branch, run, bounds, alike, agree}
 
+-- lo up to hi, hi left out
 abbrev range : ℕ → ℕ → Test
 range lo hi = branch (from lo) (branch (from hi) (always false) (always true)) (always false)
 

@@ -1,6 +1,5 @@
 -- The choice along a list: what is kept so far, as addresses and as bytes.
 -- Assumes nothing.
--- an address has at most `longest` bytes
 use mathlib.Core.Path.{_≡_, refl, sym, ap, _∙_}
 use mathlib.Core.Bool.{Bool, true, false}
 use mathlib.Core.List.{List, [], _∷_, _++_, foldl}
@@ -29,6 +28,7 @@ use Rattle.candidates.specs.declared.Counts.{Counts}
 use Rattle.candidates.specs.declared.Chosen.{Chosen}
 use Rattle.candidates.proofs.Listing.{all-snoc, all-map, listed-long}
 
+-- an address has at most `longest` bytes
 pub address-size : (a : List ℕ) {ip : Ip} {port : ℕ} → parsed a ≡ Address ip port → length a ≤ longest
 unfolding parsed
 address-size a {ip} {port} e = by-test (hasForm 0x04 4 a) (hasForm 0x29 16 a) refl refl e
