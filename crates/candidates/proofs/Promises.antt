@@ -1,6 +1,5 @@
 -- The laws that the crate promises of the two choices.
 -- Assumes nothing.
--- ---- the limits
 use mathlib.Core.Path.{_≡_, refl, sym, ap, _∙_}
 use mathlib.Core.Bool.{Bool, true, false}
 use mathlib.Core.List.{List, [], _∷_, _++_, append-assoc, foldl, foldl-append}
@@ -26,6 +25,7 @@ use Rattle.candidates.proofs.Listing.{all-map, listed-whole}
 use Rattle.candidates.proofs.Bounds.{room-says, of-parsed, total-kept, family-kept, ip-kept}
 use Rattle.candidates.proofs.Kept.{all-pass, all-only, all-bounded, sub-trans, sub-all, sub-only, sub-bounded, sub-once, sub-count, once-each, once-more, kept-more, sub-lacks, only-append, only-here}
 
+-- ---- the limits
 high-port : (got : List (List ℕ)) (a : List ℕ) → room usual got a ≡ true → ofAddress (λ i p. leb 1024 p) a ≡ true
 high-port got a r = let w = room-says usual got a r in of-parsed (λ i p. leb 1024 p) a (w .is) ∙ le-leb 1024 (w .port) (w .high)
 
