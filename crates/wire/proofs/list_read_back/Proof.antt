@@ -1,0 +1,11 @@
+-- `wire::list_read_back` meets its contract: it is the law `written-back`.
+-- Assumes nothing.
+use Rattle.wire.proofs.Listed.{written-back}
+use Rattle.wire.proofs.list_read_back.Statement.{statement}
+use Rattle.wire.proofs.list_read_back.Tie as tie
+
+returns : tie.Need-returns
+returns c = written-back
+
+pub list-read-back-spec : {M : Type 1} → statement M
+list-read-back-spec = tie.close (tie.spec returns)
