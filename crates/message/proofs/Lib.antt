@@ -1,0 +1,6 @@
+pub mod Fields
+pub mod Scan
+pub mod Addresses
+pub mod FieldList
+pub mod Answers
+pub mod ReadBack
