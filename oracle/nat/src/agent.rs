@@ -68,7 +68,7 @@ impl Shared {
         self.log.borrow_mut().push(Effect::Event(event));
     }
 
-    /// There is always room: document 01 leaves the circuit limit out.
+    /// There is always room: the rule leaves the circuit limit out.
     pub(crate) fn reserve_circuit(&mut self, _swarm: &dyn NatSwarm) -> bool {
         true
     }

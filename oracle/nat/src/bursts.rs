@@ -34,7 +34,7 @@ pub(crate) fn burst(times: u64, payload: usize, list: &[Multiaddr]) -> String {
     )
 }
 
-/// What is left of a window's instants, in closed form, by document 01's
+/// What is left of a window's instants, in closed form, by the rule's
 /// words: start, start + i, start + 2i, up to and including the end.
 #[derive(Clone, Copy, Debug)]
 pub(crate) struct Instants {

@@ -235,6 +235,11 @@ fn simpler(line: &[u8], word: usize) -> Vec<Vec<u8>> {
         None => (value, &b""[..]),
     };
     let mut values: Vec<Vec<u8>> = vec![b"-".to_vec(), b"none".to_vec(), b"0".to_vec()];
+    if key == b"data=" {
+        // CONNECT without an address, and with one.
+        values.push(b"020864".to_vec());
+        values.push(b"0f0864120b04c000000991020fa1cd03".to_vec());
+    }
     values.retain(|simple| simple.len() < value.len());
     if let Some(number) = crate::text::number(value) {
         let smaller = [0, 1, 7, number / 2, number.saturating_sub(1)];

@@ -1,5 +1,6 @@
-//! Document 01's journal, run through the given Rust. The numbers of calls
-//! turned back are decided here, from document 01, before the Rust is called.
+//! The journal of docs/RULES.md, section 12, run through the given Rust. The
+//! numbers of calls turned back are decided here, by the rule, before the Rust
+//! is called.
 
 use std::collections::BTreeSet;
 use std::io::{self, Write};
@@ -94,6 +95,24 @@ pub fn run(input: &[u8], out: &mut impl Write) -> io::Result<()> {
                 }
             }
         }
+    }
+    Ok(())
+}
+
+/// Prints, after each line, the circuit's next deadline instead of the
+/// answers, for holding it against another run of the same journal.
+pub fn run_deadlines(input: &[u8], out: &mut impl Write) -> io::Result<()> {
+    let mut lines = text::lines(input);
+    let Some(mut journal) = lines.next().flatten().and_then(Journal::read) else {
+        return writeln!(out, "n=0 out=refused why=11");
+    };
+    for (before, line) in lines.enumerate() {
+        // Only the state it leaves is wanted.
+        let _ = journal.line(line);
+        let started = journal.circuit.started();
+        let next = started.then(|| journal.circuit.next_deadline()).flatten();
+        let next = next.map_or("none".to_string(), |next| next.to_string());
+        writeln!(out, "n={} next={next}", before + 1)?;
     }
     Ok(())
 }

@@ -4,7 +4,8 @@
 //! candidate, budget, schedule or ledger. A PROGRAM that begins with `many:`
 //! answers many inputs, each after a line with its length. COUNT journals
 //! are run, or COUNT random lines beside the named ones. Stops at the first
-//! difference, shrunk, with exit code 1.
+//! difference, with exit code 1; it is shrunk first, unless COUNT is followed
+//! by `--first`.
 
 use std::io::{self, Write};
 use std::path::Path;
@@ -25,7 +26,8 @@ fn main() -> io::Result<ExitCode> {
     };
     // A stop of the Rust is an answer here, reported with its input.
     std::panic::set_hook(Box::new(|stop| eprintln!("{stop}")));
-    for arg in &args[2..] {
+    let shrink = args.get(2).is_none_or(|arg| arg != "--first");
+    for arg in &args[if shrink { 2 } else { 3 }..] {
         let Some((mode, program)) = arg.split_once('=') else {
             eprintln!("{arg}: not FORMAT=PROGRAM");
             return Ok(ExitCode::from(2));
@@ -36,27 +38,37 @@ fn main() -> io::Result<ExitCode> {
                 path: program.into(),
             }),
         };
-        if !compared(mode, seed, count, &mut *other)? {
+        if !compared(mode, seed, count, shrink, &mut *other)? {
             return Ok(ExitCode::FAILURE);
         }
     }
     Ok(ExitCode::SUCCESS)
 }
 
-fn compared(mode: &str, seed: u64, count: u64, other: &mut dyn Side) -> io::Result<bool> {
+fn compared(
+    mode: &str,
+    seed: u64,
+    count: u64,
+    shrink: bool,
+    other: &mut dyn Side,
+) -> io::Result<bool> {
     let rust = Rust {
         mode: mode.to_string(),
     };
     let mut pair = Pair { rust, other };
     let mut kinds = Kinds::new();
     let mut lines = 0;
-    for input in inputs(mode, seed, count) {
+    for (n, input) in inputs(mode, seed, count).enumerate() {
         lines += input.iter().filter(|byte| **byte == b'\n').count();
-        if !pair.agree(&input, &mut kinds)? {
-            let small = pair.shrink(&input)?;
-            report(mode, &small, &mut pair)?;
-            return Ok(false);
+        if pair.agree(&input, &mut kinds)? {
+            continue;
         }
+        println!("{mode}: a difference in input {} (seed {seed})", n + 1);
+        if shrink {
+            let small = pair.shrink(&input)?;
+            report(&small, &mut pair)?;
+        }
+        return Ok(false);
     }
     let what = match mode {
         "journal" => format!("{count} journals, {lines} lines"),
@@ -93,11 +105,14 @@ fn inputs(mode: &str, seed: u64, count: u64) -> Box<dyn Iterator<Item = Vec<u8>>
     Box::new(chunks.into_iter())
 }
 
-fn report(mode: &str, input: &[u8], pair: &mut Pair<'_>) -> io::Result<()> {
+fn report(input: &[u8], pair: &mut Pair<'_>) -> io::Result<()> {
     let mut out = io::stdout().lock();
-    writeln!(out, "{mode}: a difference. The smallest input found:")?;
+    writeln!(out, "-- the smallest input found:")?;
     out.write_all(input)?;
-    writeln!(out, "\n-- the Rust:")?;
+    if !input.ends_with(b"\n") {
+        writeln!(out)?;
+    }
+    writeln!(out, "-- the Rust:")?;
     out.write_all(&pair.rust.answer(input)?)?;
     writeln!(out, "-- the other program:")?;
     out.write_all(&pair.other.answer(input)?)

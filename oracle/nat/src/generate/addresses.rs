@@ -1,8 +1,8 @@
-//! Addresses at the edges of document 01's ranges.
+//! Addresses at the edges of the refused ranges.
 
 use super::rng::Rng;
 
-/// Prefixes that document 01 names for IPv4, and the classes around them.
+/// Prefixes that the rule names for IPv4, and the classes around them.
 const V4: &[(u32, u32)] = &[
     (0x0000_0000, 8),
     (0x0000_0000, 32),
@@ -25,7 +25,7 @@ const V4: &[(u32, u32)] = &[
     (0xc058_6300, 24),
 ];
 
-/// Prefixes that document 01 names for IPv6, and others that the Rust treats
+/// Prefixes that the rule names for IPv6, and others that the Rust treats
 /// as ordinary.
 const V6: &[(u128, u32)] = &[
     (0x2000_0000_0000_0000_0000_0000_0000_0000, 3),

@@ -13,14 +13,17 @@ pub fn journal(seed: u64) -> Vec<u8> {
     match rng.below(200) {
         0 => Vec::new(),
         1..4 => bad_settings(&mut rng),
-        4..12 => Maker::new(rng).full_windows(),
-        12..16 => Maker::new(rng).full_dials(),
-        16..20 => Maker::new(rng).full_paths(),
+        4..14 => Maker::new(rng).full_windows(),
+        14..20 => Maker::new(rng).full_dials(),
+        20..30 => Maker::new(rng).full_paths(),
+        30..45 => Maker::new(rng).ledger_windows(),
         _ => Maker::new(rng).ordinary(),
     }
 }
 
 struct Settings {
+    /// The size of the times; no setting itself.
+    scale: u64,
     handshake: u64,
     upgrade: u64,
     exchange: u64,
@@ -32,7 +35,7 @@ struct Settings {
 }
 
 fn settings(rng: &mut Rng) -> Settings {
-    let scale = rng.pick(&[3, 50, 1_000, 10_000]);
+    let scale = rng.pick(&[4, 50, 50, 1_000, 1_000, 10_000]);
     let time = |rng: &mut Rng, most: u64| match rng.below(30) {
         0 => 0,
         1 => 1,
@@ -40,14 +43,15 @@ fn settings(rng: &mut Rng) -> Settings {
         _ => rng.below(most + 1),
     };
     Settings {
+        scale,
         handshake: time(rng, scale),
-        upgrade: time(rng, 4 * scale),
+        upgrade: time(rng, 8 * scale),
         exchange: time(rng, scale),
         punch: time(rng, scale),
-        interval: time(rng, scale / 4 + 2),
+        interval: time(rng, scale / 8 + 2),
         payload: time(rng, 64),
         private: u64::from(rng.one_in(3)),
-        upgrades: u64::from(!rng.one_in(14)),
+        upgrades: u64::from(!rng.one_in(30)),
     }
 }
 
@@ -89,6 +93,8 @@ struct Maker {
     stream: u64,
     /// What is left to send of the reply that the peer writes.
     reply: Vec<u8>,
+    /// The host answers so that a round is had.
+    smooth: bool,
 }
 
 impl Maker {
@@ -112,6 +118,7 @@ impl Maker {
             circuit: 7,
             stream: 4,
             reply: Vec::new(),
+            smooth: false,
         }
     }
 
@@ -122,11 +129,17 @@ impl Maker {
             }
         }
         let circuits = self.rng.pick(&[1, 1, 1, 2, 3]);
-        for _ in 0..circuits {
+        for n in 0..circuits {
+            if n > 0 && self.rng.one_in(3) {
+                self.clock = self.clock.saturating_sub(self.rng.below(2_000));
+            }
             self.start();
             let steps = self.rng.pick(&[4, 12, 25, 40]);
             for _ in 0..steps {
                 self.step();
+                if self.rng.one_in(10) {
+                    self.probe();
+                }
             }
         }
         self.finish()
@@ -134,16 +147,16 @@ impl Maker {
 
     /// Circuits from more sources than the ledger has windows.
     fn full_windows(mut self) -> Vec<u8> {
-        self.settings.upgrade = 1_000_000;
-        self.restart();
-        self.clock = self.rng.below(1_000);
+        self.settle(1_000_000);
+        self.smooth = true;
         for source in 0..64 {
             self.begin(100 + source);
             self.answered();
         }
-        for _ in 0..4 {
-            let source = 100 + self.rng.below(70);
+        for _ in 0..6 {
+            let source = self.rng.pick(&[100, 120, 163, 164, 165, 99]);
             self.begin(source);
+            self.smooth = !self.rng.one_in(4);
             self.answered();
             for _ in 0..self.rng.below(4) {
                 self.step();
@@ -156,55 +169,100 @@ impl Maker {
         self.finish()
     }
 
+    /// Few sources answered again and again, at clocks that go back and
+    /// forth, with the ledger asked between.
+    fn ledger_windows(mut self) -> Vec<u8> {
+        let upgrade = 1 + self.rng.below(400);
+        self.settle(upgrade);
+        for _ in 0..2 + self.rng.below(6) {
+            let source = self.rng.pick(&[5, 5, 5, 6]);
+            self.begin(source);
+            self.answered();
+            for _ in 0..1 + self.rng.below(6) {
+                match self.rng.below(8) {
+                    0 => {
+                        let conn = 1_000 + self.rng.below(5);
+                        self.say(format!(
+                            "do=dial at={} conn={conn} token=1 id=3",
+                            self.clock
+                        ));
+                    }
+                    1 => {
+                        let deadline = self.run.circuit.deadline();
+                        self.clock = self.rng.near(deadline);
+                        let at = self.clock;
+                        self.say(format!("do=tick at={at} live=7 offer=none own=00"));
+                    }
+                    2 => self.step(),
+                    _ => self.probe(),
+                }
+            }
+            self.clock = match self.rng.below(3) {
+                0 => self.clock.saturating_sub(self.rng.below(400)),
+                _ => self.clock.saturating_add(self.rng.below(400)),
+            };
+        }
+        self.finish()
+    }
+
+    /// More dials than the ledger has rows, and rows freed and used again.
     fn full_dials(mut self) -> Vec<u8> {
+        self.settle(1_000_000);
         self.begin(5);
-        for n in 0..70 {
-            let conn = n * 37 % 70;
+        for n in 0..64 {
+            let conn = n * 37 % 64;
             self.say(format!(
                 "do=dial at={} conn={conn} token={n} id=3",
                 self.clock
             ));
-            if n > 60 && self.rng.one_in(2) {
-                let conn = self.rng.below(70);
-                self.say(format!("do=forget at={} conn={conn}", self.clock));
-            }
         }
-        for _ in 0..10 {
-            self.ledger_call();
+        for n in 0..20 {
+            let conn = self.rng.below(68);
+            let at = self.clock;
+            let line = match self.rng.below(4) {
+                0 => format!("do=forget at={at} conn={conn}"),
+                1 => format!("do=attribute at={at} peer=5 conn={conn} via=direct"),
+                _ => format!("do=dial at={at} conn={conn} token={n} id=4"),
+            };
+            self.say(line);
         }
         self.finish()
     }
 
+    /// More paths than the ledger has rows, and rows freed and used again.
     fn full_paths(mut self) -> Vec<u8> {
+        self.settle(1_000_000);
         self.begin(5);
-        for n in 0..70 {
-            let conn = n * 37 % 70;
-            let via = if self.rng.one_in(8) {
-                "circuit"
-            } else {
-                "direct"
-            };
+        for n in 0..64 {
+            let conn = 10 + n * 37 % 64;
             self.say(format!(
-                "do=attribute at={} peer=5 conn={conn} via={via}",
+                "do=attribute at={} peer=5 conn={conn} via=direct",
                 self.clock
             ));
-            if n > 60 && self.rng.one_in(2) {
-                let conn = self.rng.below(70);
-                self.say(format!("do=forget at={} conn={conn}", self.clock));
-            }
         }
-        for _ in 0..10 {
-            self.ledger_call();
+        for _ in 0..20 {
+            let conn = self.rng.pick(&[7, 7, 10, 20, 40, 73, 74, 75, 76]);
+            let at = self.clock;
+            let line = match self.rng.below(5) {
+                0 => format!("do=forget at={at} conn={conn}"),
+                1 | 2 => format!("do=attribute at={at} peer=5 conn={conn} via=circuit"),
+                3 if self.rng.one_in(5) => format!("do=down at={at} peer=5 conn=7"),
+                _ => format!("do=attribute at={at} peer=5 conn={conn} via=direct"),
+            };
+            self.say(line);
         }
         self.finish()
     }
 
-    /// Begins the journal anew after a change of settings.
-    fn restart(&mut self) {
+    /// Begins the journal anew with settings under which circuits start and
+    /// rounds are answered.
+    fn settle(&mut self, upgrade: u64) {
         self.settings.handshake %= 10_000;
+        self.settings.upgrade = upgrade;
         self.settings.exchange = self.settings.exchange.clamp(100, 10_000);
         self.settings.punch %= 10_000;
         self.settings.upgrades = 1;
+        self.clock %= 1_000;
         let line = self.settings.line();
         self.run = Journal::read(line.as_bytes()).expect("the settings are good");
         self.out = format!("{line}\n").into_bytes();
@@ -223,19 +281,33 @@ impl Maker {
         self.up(self.source, self.circuit, "circuit");
         if let Some((_, stream)) = self.run.circuit.pair() {
             self.input(stream, "ready", &[]);
-            let reply = reply(&mut self.rng);
+            let reply = match self.smooth {
+                true => [
+                    &[0x0f, 0x08, 0x64, 0x12, 0x0b][..],
+                    &addresses::v4(0x0808_0808, 4001),
+                ]
+                .concat(),
+                false => reply(&mut self.rng),
+            };
             self.input(stream, "data", &reply);
         }
     }
 
     fn start(&mut self) {
         if self.rng.one_in(4) {
-            self.source = self.rng.below(8);
+            self.source = 4 + self.rng.below(3);
             self.relay = self.rng.number();
             self.circuit = self.rng.pick(&[7, 7, 1, 0, u64::MAX]);
         }
         if self.rng.one_in(15) {
             self.clock = u64::MAX - self.rng.below(3_000);
+        }
+        let handshake = self.settings.handshake;
+        if self.clock.checked_add(handshake).is_none() && !self.rng.one_in(4) {
+            // Back to where a circuit can start.
+            let room = self.rng.below(20 * self.settings.scale);
+            let near = (u64::MAX - handshake).saturating_sub(room);
+            self.clock = self.rng.pick(&[near, room]);
         }
         self.begin(self.source);
         self.reply.clear();
@@ -252,11 +324,15 @@ impl Maker {
         self.pass_time();
         match self.run.circuit.pair() {
             Some((conn, stream)) if self.run.circuit.asked() => match self.rng.below(12) {
-                0..8 => self.piece(stream),
-                8 => self.say(format!(
-                    "do=wrote at={} conn={conn} stream={stream}",
-                    self.clock
-                )),
+                0..7 => self.piece(stream),
+                7 | 8 => {
+                    let other = conn.wrapping_add(1);
+                    let conn = self.rng.pick(&[conn, conn, other]);
+                    self.say(format!(
+                        "do=wrote at={} conn={conn} stream={stream}",
+                        self.clock
+                    ));
+                }
                 9 => self.closing(stream),
                 10 => self.tick(),
                 _ => self.input(stream, "ready", &[]),
@@ -300,10 +376,12 @@ impl Maker {
         self.clock = match self.rng.below(40 + limit) {
             0..14 => self.clock,
             14..30 => {
-                let little = self.rng.pick(&[2, 12, 12, 100]);
+                let little = self.rng.pick(&[2, 2 + self.settings.scale / 16]);
                 self.clock.saturating_add(self.rng.below(little))
             }
-            30 => self.clock.saturating_add(self.rng.below(5_000)),
+            30 => self
+                .clock
+                .saturating_add(self.rng.below(self.settings.scale)),
             31 => self.rng.near(deadline),
             32 => {
                 let window = next.saturating_add(self.settings.punch);
@@ -367,6 +445,12 @@ impl Maker {
     }
 
     fn answers(&mut self, with_pending: bool) -> String {
+        if self.smooth {
+            self.stream += 4;
+            let pending = if with_pending { "pending=0 " } else { "" };
+            let (live, stream) = (self.circuit, self.stream);
+            return format!("live={live} offer={live}:{stream} {pending}own=-");
+        }
         let rng = &mut self.rng;
         let live = match rng.below(30) {
             0 => "none".to_string(),
@@ -474,6 +558,21 @@ impl Maker {
         self.say(line);
     }
 
+    /// Asks the ledger about a source's window: whether it is there, and where
+    /// it ends.
+    fn probe(&mut self) {
+        let peer = self.rng.pick(&[self.source, self.source, 4, 5, 6]);
+        let deadline = self.run.circuit.deadline();
+        let around = self.rng.near(deadline);
+        let at = self
+            .rng
+            .pick(&[0, self.clock, deadline, deadline.saturating_sub(1), around]);
+        let conn = 1_000 + self.rng.below(8);
+        self.say(format!(
+            "do=attribute at={at} peer={peer} conn={conn} via=direct"
+        ));
+    }
+
     /// A good line, damaged, or one at or over the longest.
     fn bad_line(&mut self) {
         let (at, answers) = (self.clock, self.answers(true));
@@ -489,7 +588,7 @@ impl Maker {
             _ => format!("do=attribute at={at} peer={peer} conn={conn} via=direct"),
         }
         .into_bytes();
-        if self.rng.one_in(20) {
+        if self.rng.one_in(12) {
             let head = format!("do=tick at={at} live=none offer=none own=");
             let room = 32_767 - head.len();
             let mut digits = "0".repeat(room - room % 2);
@@ -554,9 +653,18 @@ fn reply(rng: &mut Rng) -> Vec<u8> {
             for _ in 0..rng.below(12) {
                 minip2p_core::encode_bytes_field(&mut body, 2, &addresses::any(rng));
             }
+            if rng.one_in(12) {
+                let field = rng.pick(&[0, 3, 536_870_911, 536_870_912]);
+                minip2p_core::encode_varint_field(&mut body, field, rng.number());
+            }
         }
     }
     let mut frame = minip2p_core::encode_frame(&body);
+    if rng.one_in(20) && body.len() < 128 {
+        // The length in a form that is not the shortest.
+        frame[0] |= 0x80;
+        frame.insert(1, 0);
+    }
     if rng.one_in(8) {
         addresses::damage(rng, &mut frame);
     }

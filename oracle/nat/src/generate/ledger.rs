@@ -149,9 +149,9 @@ fn fill(out: &mut Vec<String>) {
 
 /// A stretch of calls over few numbers, or over more than a table holds.
 pub(super) fn random(rng: &mut Rng) -> Vec<String> {
-    let span = rng.pick(&[4, 12, 90]);
-    let base = rng.pick(&[0, 0, u64::MAX - 89]);
-    let length = if span == 90 { 300 } else { 40 };
+    let span = rng.pick(&[4, 12, 90, 300]);
+    let base = rng.pick(&[0, 0, u64::MAX - (span - 1)]);
+    let length = if span < 90 { 40 } else { 400 };
     let mut out = vec!["do=empty".to_string()];
     let mut clock = rng.below(100);
     for _ in 0..length {
@@ -217,7 +217,8 @@ fn call(rng: &mut Rng, base: u64, span: u64, clock: &mut u64) -> String {
         }
         31..34 => format!("do=forget conn={conn}"),
         34 => format!("do=punched conn={conn}"),
-        35 => {
+        // A tick frees windows, so a wide stretch seldom has one.
+        35 if span < 90 || rng.one_in(8) => {
             *clock = match rng.below(8) {
                 0 => clock.saturating_sub(rng.below(30)),
                 _ => clock.saturating_add(rng.below(30)),

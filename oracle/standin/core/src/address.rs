@@ -17,7 +17,7 @@ pub enum Protocol {
 #[derive(Debug)]
 pub struct MultiaddrError;
 
-/// An address of document 01's form. Copies share one place in memory, so
+/// An address of the rule's form. Copies share one place in memory, so
 /// that a driver can tell a list's entry sent again from an equal entry
 /// beside it; equality looks at the address alone.
 #[derive(Clone, Debug)]

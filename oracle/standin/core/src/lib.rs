@@ -1,4 +1,4 @@
-//! Stand-in for `minip2p_core`, by document 01's rules. What each part
+//! Stand-in for `minip2p_core`, by docs/RULES.md. What each part
 //! follows stands in docs/DIFFERENCES.md, "Comparison with the Rust".
 
 mod address;

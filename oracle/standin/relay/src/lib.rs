@@ -1,5 +1,5 @@
 //! Stand-in for `minip2p_relay`: a STOP responder whose CONNECT is the
-//! source's eight handle bytes. Document 01 leaves the STOP phase out, so it
+//! source's eight handle bytes. The rule leaves the STOP phase out, so it
 //! only brings a circuit to its handshake.
 
 #[derive(Debug)]

@@ -1,0 +1,384 @@
+#!/usr/bin/env python3
+"""A plain model of the test programs' lines, written from the rules alone and not from the Rust.
+
+`model_lines.py MODE` answers lines of that format; `model_lines.py --many MODE` answers many inputs, each after a line
+with its length in bytes, each answer after a line with its own.
+"""
+import re
+import sys
+
+from model import (HEX, LONGEST_LINE, LONGEST_MESSAGE, NUMBER, ROWS, ROUNDS, TOP, Malformed, Refused, Window, WrongType,
+                   capped, chosen, eligible, entries, judge, own_candidates, parsed, read_message, read_varint, varint)
+
+NAMES = {'HEX': HEX, 'N': NUMBER, 'FLAG': '[01]'}
+
+
+def form(text):
+    """A pattern from words `key=NAME` or `key=one|other`."""
+    words = []
+    for word in text.split(' '):
+        key, value = word.split('=')
+        words.append(f'{key}=(?P<{key}>{NAMES.get(value, value)})')
+    return re.compile(' '.join(words).encode() + rb'\Z')
+
+
+def listed(addresses):
+    return b''.join(len(address).to_bytes(2, 'big') + address for address in addresses)
+
+
+def hexed(data):
+    return data.hex() or '-'
+
+
+# Messages
+
+
+def filled(room, data=b''):
+    return hexed(data + b'\xee' * (room - len(data)))
+
+
+def read(data, room):
+    if len(data) > LONGEST_MESSAGE:
+        raise Refused(6)
+    try:
+        kind, addresses = read_message(data)
+    except Malformed:
+        raise Refused(8)
+    except WrongType:
+        raise Refused(10)
+    if kind is None:
+        raise Refused(9)
+    out = listed(addresses)
+    if len(out) > room:
+        raise Refused(7)
+    return f"kind={ {100: 'connect', 300: 'sync'}[kind] } size={len(out)} out={filled(room, out)}"
+
+
+def write(kind, given, room):
+    addresses = entries(given)
+    if addresses is None:
+        raise Refused(5)
+    out = b'\x08' + varint({'connect': 100, 'sync': 300}[kind])
+    for address in addresses:
+        out += b'\x12' + varint(len(address)) + address
+    if len(out) > LONGEST_MESSAGE:
+        raise Refused(6)
+    if len(out) > room:
+        raise Refused(7)
+    return f'size={len(out)} out={filled(room, out)}'
+
+
+class Messages:
+    forms = ['do=varint in=HEX', 'do=encode value=N', 'do=frame in=HEX count=N', 'do=list in=HEX', 'do=read in=HEX room=N',
+             'do=write kind=connect|sync list=HEX room=N']
+
+    def varint(self, call):
+        try:
+            value, end = read_varint(call['in'], 0)
+        except Malformed:
+            return 'malformed'
+        return f'value={value} next={end}'
+
+    def encode(self, call):
+        return f"out={varint(call['value']).hex()}"
+
+    def frame(self, call):
+        if call['count'] > len(call['in']):
+            return 'bad'
+        stored = call['in'][:call['count']]
+        message = judge(stored)
+        if message is None:
+            return 'more'
+        if message is False:
+            return 'broken'
+        return f'whole start={1 if stored[0] < 128 else 2} len={len(message)}'
+
+    def list(self, call):
+        found = entries(call['in'])
+        return 'broken' if found is None else f'count={len(found)}'
+
+    def read(self, call):
+        return self.with_room(call, lambda: read(call['in'], call['room']))
+
+    def write(self, call):
+        return self.with_room(call, lambda: write(call['kind'], call['list'], call['room']))
+
+    @staticmethod
+    def with_room(call, answer):
+        if call['room'] > 8192:
+            return 'bad'
+        try:
+            return answer()
+        except Refused as refused:
+            return f"refused why={refused.args[0]} out={filled(call['room'])}"
+
+
+# Candidates
+
+
+class Candidates:
+    forms = ['do=eligible private=FLAG address=HEX', 'do=select private=FLAG list=HEX', 'do=own list=HEX']
+
+    def eligible(self, call):
+        address = parsed(call['address'])
+        if not address:
+            return 'none'
+        return 'yes' if eligible(address[0], call['private']) else 'no'
+
+    def select(self, call):
+        return self.kept(call, lambda found: chosen(found, call['private']))
+
+    def own(self, call):
+        return self.kept(call, own_candidates)
+
+    @staticmethod
+    def kept(call, choose):
+        found = entries(call['list'])
+        return 'refused why=5' if found is None else f'kept={hexed(listed(choose(found)))}'
+
+
+# Rounds
+
+
+class Budget:
+    forms = ['do=arm at=N upgrade=N exchange=N punch=N', 'do=begin at=N', 'do=end', 'do=window start=N', 'do=due at=N']
+
+    def __init__(self):
+        self.armed = None
+
+    def arm(self, call):
+        self.armed, self.rounds, self.running = call, 0, None
+        self.deadline = capped(call['at'] + call['upgrade'])
+        return self.state()
+
+    def state(self):
+        following = min(self.deadline, self.running[1] if self.running else TOP)
+        return f'rounds={self.rounds} left={int(self.rounds < ROUNDS)} deadline={self.deadline} next={following}'
+
+    def begin(self, call):
+        began = self.rounds < ROUNDS and call['at'] < self.deadline
+        if began:
+            self.rounds += 1
+            self.running = call['at'], min(capped(call['at'] + self.armed['exchange']), self.deadline)
+        return f'began={int(began)} {self.state()}'
+
+    def end(self, call):
+        self.running = None
+        return self.state()
+
+    def window(self, call):
+        return f"end={min(capped(call['start'] + self.armed['punch']), self.deadline)}"
+
+    def due(self, call):
+        if self.running and self.running[1] < self.deadline and call['at'] >= self.running[1]:
+            return f'due=exchange round={self.rounds} ms={self.running[1] - self.running[0]}'
+        if call['at'] >= self.deadline:
+            return f"due=upgrade ms={self.deadline - self.armed['at']}"
+        return 'due=none'
+
+
+# Instants
+
+
+class Schedule:
+    forms = ['do=reply at=N rtt=N deadline=N punch=N interval=N', 'do=tick at=N interval=N']
+
+    def __init__(self):
+        self.kept = None
+
+    def following(self, interval):
+        if self.kept is None:
+            return 'none'
+        instant = self.kept.start + self.kept.sent * interval
+        return str(instant) if instant <= self.kept.end else 'none'
+
+    def reply(self, call):
+        start = capped(call['at'] + (call['rtt'] + 1) // 2)
+        end = min(capped(start + call['punch']), call['deadline'])
+        times = int(call['rtt'] == 0)
+        self.kept = Window([], start, end, times)
+        return f"times={times} start={start} end={end} next={self.following(max(1, call['interval']))}"
+
+    def tick(self, call):
+        interval, times = max(1, call['interval']), 0
+        if self.kept:
+            times = max(0, self.kept.instants(call['at'], interval) - self.kept.sent)
+            self.kept.sent += times
+        return f'times={times} next={self.following(interval)}'
+
+
+# Paths
+
+
+def live(text):
+    return [] if text == '-' else [tuple(map(int, record.split(':'))) for record in text.split(',')]
+
+
+class Paths:
+    owner = f'inbound|none|{NUMBER}'
+    forms = [
+        'do=empty', 'do=dial conn=N token=N purpose=relay id=N relay=N', 'do=dial conn=N token=N purpose=punch id=N',
+        'do=dial conn=N token=N purpose=probe|reserve peer=N', 'do=finish conn=N',
+        f'do=abort id=N target=N live=-|{NUMBER}:{NUMBER}(?:,{NUMBER}:{NUMBER})*', 'do=expect peer=N until=N', 'do=end peer=N',
+        f'do=attribute at=N peer=N conn=N via=circuit|direct claim=none|circuit:{NUMBER}:inbound|circuit:{NUMBER}:{NUMBER}|direct:{NUMBER}',
+        f'do=replaced path=relayed:{NUMBER}|punched|direct owner={owner} new=N', 'do=forget conn=N', 'do=punched conn=N',
+        'do=tick at=N', 'do=next', 'do=quiet', 'do=show']
+
+    def __init__(self):
+        self.empty(None)
+
+    def empty(self, call):
+        self.dials, self.windows, self.paths = {}, {}, {}
+        return 'ok'
+
+    @staticmethod
+    def put(table, key, value):
+        if key not in table and len(table) >= ROWS:
+            return False
+        table[key] = value
+        return True
+
+    def dial(self, call):
+        purpose = {key: call[key] for key in ('purpose', 'id', 'relay', 'peer') if key in call}
+        return 'ok' if self.put(self.dials, call['conn'], (call['token'], purpose)) else 'refused why=4'
+
+    def finish(self, call):
+        if call['conn'] not in self.dials:
+            return 'none'
+        token, purpose = self.dials.pop(call['conn'])
+        return f'token={token} ' + ' '.join(f'{key}={value}' for key, value in purpose.items())
+
+    def abort(self, call):
+        first = {}
+        for peer, conn in live(call['live']):
+            first.setdefault(peer, conn)
+        retired, close = [], []
+        for conn in sorted(self.dials):
+            token, purpose = self.dials[conn]
+            if purpose.get('id') != call['id']:
+                continue
+            retired.append(token)
+            peer = purpose['relay'] if purpose['purpose'] == 'relay' else call['target']
+            if first.get(peer) != conn:
+                close.append(conn)
+            if first.get(peer) != conn or purpose['purpose'] == 'relay':
+                del self.dials[conn]
+        return f'retired={joined(retired)} close={joined(close)}'
+
+    def expect(self, call):
+        until = max(call['until'], self.windows.get(call['peer'], 0))
+        return 'ok' if self.put(self.windows, call['peer'], until) else 'refused why=4'
+
+    def end(self, call):
+        self.windows.pop(call['peer'], None)
+        return 'ok'
+
+    def attribute(self, call):
+        claim = call['claim'].split(':')
+        _, purpose = self.dials.get(call['conn'], (None, {}))
+        if call['via'] == 'circuit':
+            if claim[0] != 'circuit':
+                return 'path=none'
+            row = f'relayed:{claim[1]}', claim[2]
+        elif purpose.get('purpose') == 'punch':
+            row = 'punched', str(purpose['id'])
+        elif claim[0] == 'direct':
+            row = 'direct', claim[1]
+        elif call['at'] < self.windows.get(call['peer'], 0):
+            row = 'punched', 'inbound'
+        else:
+            row = 'direct', 'none'
+        return self.row(row) if self.put(self.paths, call['conn'], row) else 'refused why=4'
+
+    @staticmethod
+    def row(row):
+        path, owner = row
+        return f"path={path.replace(':', ' relay=')} owner={owner}"
+
+    def replaced(self, call):
+        new = self.paths.get(call['new'])
+        if new is None or not call['path'].startswith('relayed') or call['owner'] == 'none' or new[0].startswith('relayed'):
+            return 'none'
+        return f"upgrade owner={call['owner']} from={call['path']} to={new[0]}"
+
+    def forget(self, call):
+        self.dials.pop(call['conn'], None)
+        row = self.paths.pop(call['conn'], None)
+        return self.row(row) if row else 'none'
+
+    def punched(self, call):
+        return 'yes' if self.paths.get(call['conn'], ('', ''))[0] == 'punched' else 'no'
+
+    def tick(self, call):
+        self.windows = {peer: until for peer, until in self.windows.items() if until > call['at']}
+        return 'ok'
+
+    def next(self, call):
+        return f'at={min(self.windows.values())}' if self.windows else 'none'
+
+    def quiet(self, call):
+        return 'no' if self.windows else 'yes'
+
+    def show(self, call):
+        dials = [f'{conn}:{token}:' + ':'.join(str(part) for part in purpose.values())
+                 for conn, (token, purpose) in sorted(self.dials.items())]
+        windows = [f'{peer}:{until}' for peer, until in sorted(self.windows.items())]
+        paths = [f'{conn}:{path}:{owner}' for conn, (path, owner) in sorted(self.paths.items())]
+        return f'dials={joined(dials)} windows={joined(windows)} paths={joined(paths)}'
+
+
+def joined(items):
+    return ','.join(str(item) for item in items) or '-'
+
+
+# Lines
+
+MODES = {'message': Messages, 'candidate': Candidates, 'budget': Budget, 'schedule': Schedule, 'ledger': Paths}
+BYTES = ('in', 'list', 'address')
+WORDS = ('do', 'kind', 'purpose', 'via')
+
+
+def values(match):
+    """The words of a matched line; None if a number is too large."""
+    out = {}
+    for key, text in match.groupdict().items():
+        text = text.decode()
+        if key in BYTES:
+            out[key] = b'' if text == '-' else bytes.fromhex(text)
+        elif key in WORDS:
+            out[key] = text
+        elif key in ('live', 'claim', 'path', 'owner'):
+            if any(int(number) > TOP for number in re.findall('[0-9]+', text)):
+                return None
+            out[key] = text
+        else:
+            out[key] = int(text)
+            if out[key] > TOP:
+                return None
+    return out
+
+
+def answers(mode, data):
+    kept = MODES[mode]()
+    forms = [form(text) for text in kept.forms]
+    out = []
+    for line in data.split(b'\n')[:-1]:
+        match = next((match for match in (pattern.match(line) for pattern in forms) if match), None)
+        call = values(match) if match and len(line) < LONGEST_LINE else None
+        unarmed = mode == 'budget' and kept.armed is None and call and call['do'] != 'arm'
+        out.append('bad' if call is None or unarmed else getattr(kept, call['do'])(call))
+    return ''.join(text + '\n' for text in out)
+
+
+def main():
+    if sys.argv[1] == '--many':
+        while size := sys.stdin.buffer.readline():
+            out = answers(sys.argv[2], sys.stdin.buffer.read(int(size))).encode()
+            sys.stdout.buffer.write(b'%d\n%s' % (len(out), out))
+            sys.stdout.buffer.flush()
+    else:
+        sys.stdout.write(answers(sys.argv[1], sys.stdin.buffer.read()))
+
+
+if __name__ == '__main__':
+    main()
