@@ -1,7 +1,6 @@
 -- Two tests of a number that look only at where it stands among finitely many bounds are equal at every number, once they are
 -- equal at each bound and at 0: between two neighbouring bounds neither can change. antt computes the comparison.
 -- Assumes nothing.
--- a test: a constant, whether the number is at least a bound, or one of two tests by a third
 use mathlib.Core.Path.{_≡_, refl, sym, subst, _∙_}
 use mathlib.Core.Bool.{Bool, true, false}
 use mathlib.Core.List.{List, [], _∷_, _++_}
@@ -12,6 +11,7 @@ use lib.Dec.{T, leb}
 use borrow.Author.Tests.{leb-true, leb-false, le-leb, lt-leb}
 use Rattle.prelude.specs.Choice.{pick}
 
+-- a test: a constant, whether the number is at least a bound, or one of two tests by a third
 pub data Test : Type 0 where
   always : Bool → Test
   from : ℕ → Test

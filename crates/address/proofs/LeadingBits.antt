@@ -1,6 +1,5 @@
 -- What shifts and masks say of leading bits, over any width.
 -- Assumes nothing.
--- two tests of equality agree where the equations follow from each other
 use mathlib.Core.Path.{_≡_, refl, sym, ap, subst, _∙_}
 use mathlib.Core.Bool.{Bool, true, false}
 use Prim.Native.Nat.{ℕ, suc, _+_, _-_, _*_, _/_, _%_, _^_, _<_, _≤_}
@@ -13,6 +12,7 @@ use lib.Pow.{pow-pos, pow-mono, suc-ones, pow-add, shr-shr, shl-shr, shr-mod, hi
 use borrow.Author.Tests.{eq-eqb, ne-eqb, eqb-true, eqb-false}
 use Rattle.address.specs.LeadingBits.{sameLeadingBits}
 
+-- two tests of equality agree where the equations follow from each other
 pub same-test : (a b c d : ℕ) → (a ≡ b → c ≡ d) → (c ≡ d → a ≡ b) → eqb a b ≡ eqb c d
 same-test a b c d f g = go (eqb c d) refl
   where

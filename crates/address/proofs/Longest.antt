@@ -1,6 +1,5 @@
 -- In the table's order the first row in which an address lies is the longest in which it lies.
 -- Assumes nothing.
--- the second prefix is of the other family, or no longer
 use mathlib.Core.Path.{_≡_, refl, sym, ap, subst, _∙_}
 use mathlib.Core.Bool.{Bool, true, false}
 use mathlib.Core.List.{List, [], _∷_}
@@ -17,6 +16,7 @@ use Rattle.address.specs.declared.Prefix.the-variants.{Net4, Net6}
 use Rattle.address.specs.declared.Verdict.{Verdict}
 use Rattle.address.specs.declared.Range.{Range}
 
+-- the second prefix is of the other family, or no longer
 abbrev fits : Prefix → Prefix → Bool
 fits (Net4 p m) (Net4 q n) = leb n m
 fits (Net4 p m) (Net6 h l n) = true

@@ -1,6 +1,5 @@
 -- The table says of every address what the words say.
 -- Assumes nothing.
--- lo up to hi, hi left out
 use mathlib.Core.Path.{_≡_, refl, sym, ap, _∙_}
 use mathlib.Core.Bool.{Bool, true, false}
 use mathlib.Core.List.{List, [], _∷_}
@@ -25,6 +24,7 @@ use Rattle.address.proofs.LeadingBits.{same-test}
 use Rattle.address.proofs.Longest.{first-verdict}
 use Rattle.address.proofs.CutPoints.{Test, always, from, branch, run, bounds, alike, agree}
 
+-- lo up to hi, hi left out
 abbrev range : ℕ → ℕ → Test
 range lo hi = branch (from lo) (branch (from hi) (always false) (always true)) (always false)
 
@@ -197,39 +197,39 @@ words4 : (n : ℕ) → Seen n (globalUnicast4 n)
 unfolding globalUnicast4
 words4 n =
     not
-    (or (one 24 0)
-    (or (one 24 10)
-    (or (two-in 8 16 172 16 31 tt)
-    (or (two 8 16 192 168 tt)
-    (or (two-in 8 16 100 64 127 tt)
-    (or (one 24 127)
-    (or (two 8 16 169 254 tt)
-    (or (and-neither (eqb (n % 2 ^ 8) 9) (eqb (n % 2 ^ 8) 10) (three 8 8 192 0 0 tt tt) (four 8 192 0 0 9 tt tt tt) (four 8 192 0 0 10 tt tt tt))
-    (or (three 8 8 192 0 2 tt tt)
-    (or (three 8 8 198 51 100 tt tt)
-    (or (three 8 8 203 0 113 tt tt) (or (two-in 8 16 198 18 19 tt) (least 24 224)))))))))))))
+    (or (one 24 _)
+    (or (one 24 _)
+    (or (two-in 8 16 _ _ _ tt)
+    (or (two 8 16 _ _ tt)
+    (or (two-in 8 16 _ _ _ tt)
+    (or (one 24 _)
+    (or (two 8 16 _ _ tt)
+    (or (and-neither _ _ (three 8 8 _ _ _ tt tt) (four 8 _ _ _ _ tt tt tt) (four 8 _ _ _ _ tt tt tt))
+    (or (three 8 8 _ _ _ tt tt)
+    (or (three 8 8 _ _ _ tt tt)
+    (or (three 8 8 _ _ _ tt tt) (or (two-in 8 16 _ _ _ tt) (least 24 _)))))))))))))
 
 words4-on : (n : ℕ) → Seen n (unicast4 n)
 unfolding unicast4
-words4-on n = not (or (exact 0) (or (one-in 24 224 239) (exact 0xffff_ffff)))
+words4-on n = not (or (exact _) (or (one-in 24 _ _) (exact _)))
 
 words6 : (n : ℕ) → Seen n (globalUnicast6 n)
 unfolding globalUnicast6
 words6 n =
-    and (one-in 112 0x2000 0x3fff)
-    (and (not (one 112 0x2002))
-    (and (not (two 16 96 0x2001 0xdb8 tt))
-    (and (not (two-in 16 96 0x3fff 0 0xfff tt))
-    (or (not (two-in 16 96 0x2001 0 0x1ff tt))
-    (or (exact 0x2001_0001_0000_0000_0000_0000_0000_0001)
-    (or (exact 0x2001_0001_0000_0000_0000_0000_0000_0002)
-    (or (two 16 96 0x2001 0x3 tt)
-    (or (three 16 80 0x2001 0x4 0x112 tt tt)
-    (or (two-in 16 96 0x2001 0x20 0x2f tt) (two-in 16 96 0x2001 0x30 0x3f tt))))))))))
+    and (one-in 112 _ _)
+    (and (not (one 112 _))
+    (and (not (two 16 96 _ _ tt))
+    (and (not (two-in 16 96 _ _ _ tt))
+    (or (not (two-in 16 96 _ _ _ tt))
+    (or (exact _)
+    (or (exact _)
+    (or (two 16 96 _ _ tt)
+    (or (three 16 80 _ _ _ tt tt)
+    (or (two-in 16 96 _ _ _ tt) (two-in 16 96 _ _ _ tt))))))))))
 
 words6-on : (n : ℕ) → Seen n (unicast6 n)
 unfolding unicast6
-words6-on n = not (or (exact 0) (least 120 0xff))
+words6-on n = not (or (exact _) (least 120 _))
 
 -- ---- the table as a test of an address of w bits: 32, or 128
 prefixTest : ℕ → ℕ → ℕ → Test

@@ -1,6 +1,5 @@
 -- The search from a row on.
 -- Assumes nothing.
--- at row i of a table t, where b is the test's answer, and d stands for a row past its end
 use mathlib.Core.Path.{_≡_, _∙_}
 use mathlib.Core.Bool.{Bool, true, false}
 use mathlib.Core.List.{List}
@@ -13,6 +12,7 @@ use Rattle.address.specs.Ranges.{liesIn, firstRow, noRow}
 use Rattle.address.specs.declared.Ip.{Ip}
 use Rattle.address.specs.declared.Range.{Range}
 
+-- at row i of a table t, where b is the test's answer, and d stands for a row past its end
 module _ (ip : Ip) (d : Range) (t : List Range) (i : ℕ) (h : i < length t) (b : Bool) (q : b ≡ liesIn ip (getD t i d .0)) where
   step : firstRow ip (drop i t) ≡ pick b (getD t i d) (firstRow ip (drop (i + 1) t))
   unfolding firstRow

@@ -1,5 +1,5 @@
-// Which addresses may be punch targets (inbound.rs, is_punchable_quic): one table of ranges for both families, in which the
-// longest range that holds the address decides.
+// Which addresses may be punch targets (inbound.rs, is_punchable_quic with is_global_unicast_v4, is_global_unicast_v6 and
+// is_unicast_v4): one table of ranges for both families, in which the longest range that holds the address decides.
 ghost use mathlib.Core.Path.{_≡_};
 ghost use mathlib.Core.Bool.{Bool};
 ghost use Prim.Native.Nat.{ℕ, _+_, _*_, _<_, _≤_, _^_, _-_};

@@ -1,6 +1,5 @@
 -- The candidates keep to the limits.
 -- Assumes nothing.
--- what room says of the address and of what is kept
 use mathlib.Core.Path.{_≡_, refl, sym, ap, _∙_}
 use mathlib.Core.Bool.{Bool, true, false}
 use mathlib.Core.List.{List, [], _∷_, _++_, foldl}
@@ -21,6 +20,7 @@ use Rattle.candidates.specs.declared.Limits.{Limits}
 use Rattle.candidates.proofs.Keeping.{both-true}
 use Rattle.candidates.proofs.Passes.{count-append}
 
+-- what room says of the address and of what is kept
 pub record Room (l : Limits) (got : List (List ℕ)) (a : List ℕ) : Type 0 where
   pub ip : Ip
   pub port : ℕ

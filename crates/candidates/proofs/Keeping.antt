@@ -1,6 +1,5 @@
 -- The choice along a list: what is kept so far, as addresses and as bytes.
 -- Assumes nothing.
--- an address has at most `longest` bytes
 use mathlib.Core.Path.{_≡_, refl, sym, ap, _∙_}
 use mathlib.Core.Bool.{Bool, true, false}
 use mathlib.Core.List.{List, [], _∷_, _++_, foldl}
@@ -29,6 +28,7 @@ use Rattle.candidates.specs.declared.Counts.{Counts}
 use Rattle.candidates.specs.declared.Chosen.{Chosen}
 use Rattle.candidates.proofs.Listing.{all-snoc, all-map, listed-long}
 
+-- an address has at most `longest` bytes
 pub address-size : (a : List ℕ) {ip : Ip} {port : ℕ} → parsed a ≡ Address ip port → length a ≤ longest
 unfolding parsed
 address-size a {ip} {port} e = by-test (hasForm 0x04 4 a) (hasForm 0x29 16 a) refl refl e
@@ -99,7 +99,7 @@ unfolding listed
 keep-none l list source e =
     record { got = []; inside = omega arith; bytes-are = ap (λ (c : Chosen). c .bytes) e; len-is = refl; few = omega arith; each = tt; rest = refl }
 
-module _ {l : Limits} (small : l .total ≤ 8) {list : List ℕ} {source : Source} {bytes : List ℕ} {len at : ℕ} (h : Keeping l list source bytes len at) where
+module _ {l : Limits} (small : (longest + 2) * l .total ≤ capacity) {list : List ℕ} {source : Source} {bytes : List ℕ} {len at : ℕ} (h : Keeping l list source bytes len at) where
   pub keep-len : len ≤ (longest + 2) * length (h .got)
   keep-len = omega (arith, listed-long (h .got) (h .each), h .len-is)
 

@@ -1,6 +1,5 @@
 -- The loops' invariants: each with what starts it, what a turn does to it, and what it says at the end.
 -- Assumes nothing.
--- ---- count: n is what the entries before `at` give
 use mathlib.Core.Path.{_≡_, sym, ap, _∙_}
 use mathlib.Core.Bool.{Bool, true, false}
 use mathlib.Core.List.{List, []}
@@ -17,6 +16,7 @@ use Rattle.candidates.specs.OnePass.{tallied}
 use Rattle.candidates.specs.declared.Counts.{Counts}
 use Rattle.candidates.proofs.Answers.{bit-le}
 
+-- ---- tally_all: n is what the entries before `at` give
 pub record Counting (s : List ℕ) (ip : Ip) (n : Counts) (at : ℕ) : Type 0 where
   pub inside : at ≤ length s
   pub total-small : n .total ≤ at

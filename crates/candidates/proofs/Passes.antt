@@ -1,6 +1,5 @@
 -- The choice in one pass is the choice in words: first the ranges, or each form once, then the limits.
 -- Assumes nothing.
--- ---- the peer's list
 use mathlib.Core.Path.{_≡_, refl, sym, ap, _∙_}
 use mathlib.Core.Bool.{Bool, true, false}
 use mathlib.Core.List.{List, [], _∷_, _++_, append-assoc, append-nil, foldl, foldl-append}
@@ -22,6 +21,7 @@ use Rattle.candidates.specs.declared.Limits.{Limits}
 use Rattle.candidates.specs.declared.Counts.{Counts}
 use Rattle.candidates.proofs.Answers.{same-true}
 
+-- ---- the peer's list
 wanted-peer : (l : Limits) (private : Bool) (xs : List (List ℕ)) (a : List ℕ) → wantedFrom l (Peer private) xs a ≡ both (punchable private a) (room l xs a)
 unfolding wantedFrom room
 wanted-peer l private xs a = by-parsed (parsed a)

@@ -7,11 +7,11 @@ use wire::Entry;
 ghost use mathlib.Core.Path.{_≡_};
 ghost use mathlib.Core.Bool.{Bool};
 ghost use mathlib.Core.List.{List, [], foldl};
-ghost use Prim.Native.Nat.{ℕ, _<_, _≤_, _^_};
+ghost use Prim.Native.Nat.{ℕ, _+_, _*_, _<_, _≤_, _^_};
 ghost use Rattle.prelude.specs.Choice.{no};
 ghost use Rattle.wire.specs.Lists.{entries, listed};
 ghost use Rattle.candidates.specs.Entries.{bit, count, sameFamily, sameIp, sameBytes, contains};
-ghost use Rattle.candidates.specs.Selection.{usual, counted, roomFor, bounded, punchable, selected, own, packed, answered};
+ghost use Rattle.candidates.specs.Selection.{usual, longest, capacity, counted, roomFor, bounded, punchable, selected, own, packed, answered};
 ghost use Rattle.candidates.specs.OnePass.{tallied, suits, wantedFrom, keptFrom};
 ghost use Rattle.candidates.specs.Laws.{AllPass, KeepsLimits, DropsOnlyAtLimits, Short, IsListOf};
 
@@ -178,7 +178,7 @@ fn holds(list: &[u8], a: &[u8]) -> bool
 }
 
 impl Limits {
-    pub fn usual() -> Self
+    fn usual() -> Self
         ensures { λ r. ⌜ r ≡ usual ⌝ }
     {
         Limits {
@@ -242,8 +242,9 @@ fn nothing_chosen() -> Chosen
     }
 }
 
+// The entries of a list that are kept, in one pass.
 fn choose(l: Limits, list: &[u8], source: Source) -> Chosen
-    requires { ⌜ l .total ≤ 8 ⌝ }
+    requires { ⌜ (longest + 2) * l .total ≤ capacity ⌝ }
     ensures { λ r. ⌜ r ≡ packed (listed (foldl (keptFrom l source) [] (entries (now (list .entry))))) ⌝ }
 {
     let none = nothing_chosen();

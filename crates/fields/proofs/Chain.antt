@@ -2,10 +2,14 @@
 -- Assumes nothing.
 use mathlib.Core.Path.{_≡_, refl, sym, _∙_}
 use mathlib.Core.List.{List}
-use mathlib.Core.Bool.{Bool}
-use Prim.Native.Nat.{ℕ}
+use mathlib.Core.Bool.{Bool, true, false}
+use Prim.Native.Nat.{ℕ, _≤_}
+use lib.Dec.{eqb}
 use lib.ListN.{length}
 use borrow.Author.Tests.{eq-eqb, ne-eqb}
+use Rattle.prelude.specs.Choice.{pick}
+use Rattle.fields.specs.Fields.{bytesAt}
+use Rattle.fields.proofs.Places.{bytes-within}
 use Rattle.fields.specs.Line.{number, choice, maybe, pair, bytes, ends}
 use Rattle.fields.specs.declared.Maybe.{Maybe}
 use Rattle.fields.specs.declared.Pair.{Pair}
@@ -72,3 +76,34 @@ at-end bad line next good h = rw (eq-eqb next (length line) h)
 pub not-at-end : {A : Type 0} (bad : A) (line : List ℕ) (next : ℕ) (good : A) → (next ≡ length line → ⊥) → bad ≡ ends bad line next good
 unfolding ends
 not-at-end bad line next good h = rw (ne-eqb next (length line) h)
+
+-- ---- what holds of a line whatever its fields are: of what it means where one is bad, and of what follows a good one
+
+module _ {A : Type 0} (P : A → Type 0) (bad : A) (b : P bad) where
+  pub number-all : (d : NumberField) (rest : ℕ → ℕ → A) → ((v p : ℕ) → P (rest v p)) → P (number bad d rest)
+  unfolding number
+  number-all (numberField.At v p) rest h = h v p
+  number-all numberField.Bad rest h = b
+
+  pub choice-all : (d : ChoiceField) (rest : Bool → ℕ → A) → ((v : Bool) (p : ℕ) → P (rest v p)) → P (choice bad d rest)
+  unfolding choice
+  choice-all (choiceField.At v p) rest h = h v p
+  choice-all choiceField.Bad rest h = b
+
+  -- bytes lie within the line
+  pub bytes-all : (line key : List ℕ) (at : ℕ) (rest : ℕ → ℕ → ℕ → A) → ((v w p : ℕ) → v ≤ w → w ≤ length line → P (rest v w p))
+      → P (bytes bad (bytesAt line key at) rest)
+  unfolding bytes
+  bytes-all line key at rest h = go (bytesAt line key at) refl
+    where
+      go : (d : BytesField) → bytesAt line key at ≡ d → P (bytes bad d rest)
+      go (bytesField.At v w p) e = let g = bytes-within line key at e in h v w p (g .0) (g .1)
+      go bytesField.Bad e = b
+
+  pub ends-all : (line : List ℕ) (next : ℕ) (good : A) → P good → P (ends bad line next good)
+  unfolding ends
+  ends-all line next good g = go (eqb next (length line))
+    where
+      go : (t : Bool) → P (pick t good bad)
+      go true = g
+      go false = b

@@ -4,15 +4,17 @@ use mathlib.Core.List.{List, [], _∷_}
 use mathlib.Core.Bool.{Bool, true, false}
 use Prim.Native.Nat.{ℕ, suc, _+_, _-_, _<_, _≤_}
 use native.Mathlib.Omega.{arith}
-use lib.Dec.{ltb}
+use lib.Dec.{ltb, eqb}
 use lib.ListN.{length, take, drop, length-take, length-drop}
 use lib.Seq.{take-all}
 use borrow.Author.Tests.{lt-ltb, le-ltb, ltb-true, ltb-false}
 use Rattle.prelude.specs.Choice.{pick}
-use Rattle.text.specs.Words.{begins, lengthBefore}
+use Rattle.text.specs.Words.{ascii, begins, isWord, lengthBefore}
 use Rattle.text.proofs.Reading.{before-within, begins-within}
 use Rattle.text.proofs.Printing.{rest-of}
-use Rattle.fields.specs.Fields.{valueAt}
+use Rattle.text.specs.Hexadecimal.{isHexadecimal}
+use Rattle.fields.specs.Fields.{part, valueAt, bytesIn, bytesAt}
+use Rattle.fields.specs.declared.BytesField.the-variants as bytesField
 use Rattle.fields.specs.declared.Span.{Span}
 use Rattle.fields.specs.declared.Span.the-variants.{At, Bad}
 
@@ -54,3 +56,18 @@ value-within s key at {r} {a} {e} f g = go (ltb (length s) at) refl (begins key 
         let m = before-within 32 (drop (at + length key) s) in
         let n : at ≤ length s = ltb-false _ _ b in
         omega (arith, length-drop at s, length-drop (at + length key) s)
+
+-- bytes lie within the line
+pub bytes-within : (s key : List ℕ) (at : ℕ) {a e p : ℕ} → bytesAt s key at ≡ bytesField.At a e p → (a ≤ e) × (e ≤ length s)
+unfolding bytesAt
+bytes-within s key at {a} {e} {p} f = go (valueAt s key at) refl f
+  where
+    go : (v : Span) → valueAt s key at ≡ v → bytesIn s v ≡ bytesField.At a e p → (a ≤ e) × (e ≤ length s)
+    go Bad g z = let w : _≡_ {A = ℕ} 0 1 = cc in absurd (omega arith)
+    go (At b d) g z = by-test (isWord (ascii "-") (part s b d)) (eqb b d) (isHexadecimal (part s b d)) z
+      where
+        by-test : (k l m : Bool) → pick k (bytesField.At b b d) (pick l bytesField.Bad (pick m (bytesField.At b d d) bytesField.Bad)) ≡ bytesField.At a e p → (a ≤ e) × (e ≤ length s)
+        by-test true l m z = let i : b ≡ a = cc in let j : b ≡ e = cc in omega (arith, value-within s key at refl g)
+        by-test false true m z = let w : _≡_ {A = ℕ} 0 1 = cc in absurd (omega arith)
+        by-test false false true z = let i : b ≡ a = cc in let j : d ≡ e = cc in omega (arith, value-within s key at refl g)
+        by-test false false false z = let w : _≡_ {A = ℕ} 0 1 = cc in absurd (omega arith)

@@ -6,6 +6,8 @@ ghost use Prim.Native.Nat.{ℕ, _+_, _≤_};
 ghost use lib.ListN.{length, drop};
 ghost use Rattle.text.specs.Words.{lengthBefore};
 ghost use Rattle.text.specs.Decimal.{most, decimal};
+ghost use Rattle.text.specs.Hexadecimal.{bytesText};
+ghost use Rattle.text.specs.Printed.{printed, behind};
 ghost use Rattle.fields.specs.Values.{maybeOf, pairOf};
 ghost use Rattle.fields.specs.Fields.{valueAt, numberAt, choiceAt, maybeAt, pairAt, bytesAt};
 use text::Number;
@@ -203,6 +205,26 @@ pub fn bytes_at(line: &[u8], key: &[u8], at: usize) -> BytesField
         };
     }
     BytesField::Bad
+}
+
+// ---- printing
+
+// A key and a number.
+pub fn put_number(key: &[u8], v: u64, out: &mut [u8], at: usize) -> usize
+    ensures bytes { λ r. ⌜ now (out .exit) ≡ printed (now (out .entry)) at (now (key .entry) ++ decimal v) ⌝ }
+    ensures place { λ r. ⌜ r ≡ behind (now (out .entry)) at (now (key .entry) ++ decimal v) ⌝ }
+{
+    let p = text::put_text(key, out, at);
+    text::put_decimal(v, out, p)
+}
+
+// A key and bytes.
+pub fn put_bytes(key: &[u8], bytes: &[u8], out: &mut [u8], at: usize) -> usize
+    ensures bytes { λ r. ⌜ now (out .exit) ≡ printed (now (out .entry)) at (now (key .entry) ++ bytesText (now (bytes .entry))) ⌝ }
+    ensures place { λ r. ⌜ r ≡ behind (now (out .entry)) at (now (key .entry) ++ bytesText (now (bytes .entry))) ⌝ }
+{
+    let p = text::put_text(key, out, at);
+    text::put_bytes(bytes, out, p)
 }
 
 // A number field is read where its key and its number's text stand before a space or the line's end, and nowhere else.

@@ -1,4 +1,4 @@
--- `select::same_bytes` meets its contract: from what `same` ensures.
+-- `candidates::same_bytes` meets its contract: from what `same` ensures.
 -- Assumes nothing.
 use Rattle.candidates.proofs.Answers.{same-is}
 use borrow.Author.Needs.{needs}

@@ -1,4 +1,4 @@
--- `select::same_ip` meets its contract: each answer by the tests on the way.
+-- `candidates::same_ip` meets its contract: each answer by the tests on the way.
 -- Assumes nothing.
 use borrow.Author.Tests.{eq-eqb, ne-eqb}
 use borrow.Author.Needs.{needs}

@@ -1,4 +1,4 @@
--- `select::Limits::room_for` meets its contract: each answer by the tests on the way.
+-- `candidates::Limits::room_for` meets its contract: each answer by the tests on the way.
 -- Assumes nothing.
 use Rattle.candidates.proofs.Answers.{last-of-four}
 use borrow.Author.Tests.{le-leb, lt-leb, lt-ltb, le-ltb}
