@@ -663,14 +663,18 @@ impl Maker {
         ));
     }
 
-    /// A good line, damaged, or one at or over the longest.
+    /// A good line, most often damaged, or one at or over the longest.
     fn bad_line(&mut self) {
         let (at, answers) = (self.clock, self.answers(true));
         let (peer, conn) = (self.named(), self.named());
         let mut line = match self.rng.below(8) {
             0 => format!("do=start at={at} source={peer} relay=9 circuit={conn}"),
             1 => format!("do=up at={at} peer={peer} conn={conn} via=circuit {answers}"),
-            2 => format!("do=input at={at} stream={conn} kind=data data=0864 {answers}"),
+            2 => {
+                // Good with data alone.
+                let kind = self.rng.pick(&["data", "ready", "end", "closed"]);
+                format!("do=input at={at} stream={conn} kind={kind} data=0864 {answers}")
+            }
             3 => format!("do=tick at={at} live=7 offer=7:8 own=-"),
             4 => format!("do=wrote at={at} conn={conn} stream={peer}"),
             5 => format!("do=down at={at} peer={peer} conn={conn}"),
@@ -681,14 +685,17 @@ impl Maker {
         if self.rng.one_in(12) {
             let head = format!("do=tick at={at} live=none offer=none own=");
             let room = 32_767 - head.len();
-            let mut digits = "0".repeat(room - room % 2);
-            digits.truncate(room);
+            let digits = "0".repeat(room - room % 2);
             line = format!("{head}{digits}").into_bytes();
             let longer = self.rng.pick(&[0, 0, 1, 2, 3, 40_000]);
             line.extend(vec![b'0'; longer]);
         } else if self.rng.one_in(30) {
             line.clear();
-        } else {
+        } else if self.rng.one_in(8) {
+            // A good line but for capitals in its bytes.
+            let bytes = hex(&addresses::list(&mut self.rng, 2)).to_ascii_uppercase();
+            line = format!("do=tick at={at} live=7 offer=7:8 own={bytes}").into_bytes();
+        } else if !self.rng.one_in(8) {
             damage_line(&mut self.rng, &mut line);
         }
         self.say(line);
@@ -752,6 +759,12 @@ fn reply(rng: &mut Rng) -> Vec<u8> {
             if rng.one_in(12) {
                 let field = rng.pick(&[0, 3, 536_870_911, 536_870_912]);
                 minip2p_core::encode_varint_field(&mut body, field, rng.number());
+            }
+            if rng.one_in(20) {
+                // An unknown varint of ten bytes, its tenth around its limit.
+                body.push(0x18);
+                body.extend_from_slice(&[0xff; 9]);
+                body.push(rng.pick(&[0, 1, 2, 3]));
             }
         }
     }
