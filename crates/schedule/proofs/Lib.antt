@@ -1,0 +1,5 @@
+pub mod Instants
+pub mod Schedule
+pub mod Counted
+pub mod Readings
+pub mod Examples

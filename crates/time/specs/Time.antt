@@ -1,0 +1,10 @@
+-- Sums of times (RULES.md, section 1.1).
+use Prim.Native.Nat.{ℕ, _+_, _-_, _^_, min}
+
+-- the largest time
+abbrev pub last : ℕ
+last = 2 ^ 64 - 1
+
+-- a sum of times, kept at the largest time when larger
+unfoldable pub plus : ℕ → ℕ → ℕ
+plus a b = min (a + b) last
