@@ -1,0 +1,43 @@
+-- How long an output is at most (RULES.md, section 12.5). Numbers are of 64 bits, a framed message has at most 156 bytes, and a target list
+-- at most 200: eight addresses of 23 bytes, each behind its length.
+use Prim.Native.Nat.{ℕ, _≤_}
+use mathlib.Core.Path.{_≡_}
+use mathlib.Core.List.{List, _++_}
+use lib.ListN.{length, take}
+use Rattle.text.specs.Decimal.{most}
+use Rattle.text.specs.Printed.{printed, behind}
+use Rattle.refusal.specs.declared.Refusal.{Refusal}
+use Rattle.ids.specs.declared.PeerId.{PeerId}
+use Rattle.ids.specs.declared.ConnectionId.{ConnectionId}
+use Rattle.ids.specs.declared.ConnectId.{ConnectId}
+use Rattle.ids.specs.declared.StreamId.{StreamId}
+use Rattle.path.specs.declared.Owner.{Owner}
+use Rattle.path.specs.declared.Owner.the-variants.{Attempt}
+use Rattle.path.specs.declared.Attribution.{Attribution}
+use Rattle.journal_prints.specs.Outputs.{noneText, pathText, openText, sendText, resetText, burstText, closeText, upgradeText, attributionText, unattributedText, refusedText}
+
+abbrev pub room : ℕ
+room = 497
+
+-- an owner's number is of 64 bits
+abbrev pub OwnerFits : Owner → Type 0
+OwnerFits owner = (id : ConnectId) → owner ≡ Attempt id → id .0 ≤ most
+
+-- the texts that are printed
+pub data Output : List ℕ → Type 0 where
+  isNone : (n : ℕ) → n ≤ most → Output (noneText n)
+  isPath : (n : ℕ) (peer relay : PeerId) (conn : ConnectionId) → n ≤ most → peer .0 ≤ most → relay .0 ≤ most → conn .0 ≤ most → Output (pathText n peer relay conn)
+  isOpen : (n : ℕ) (conn : ConnectionId) (stream : StreamId) → n ≤ most → conn .0 ≤ most → stream .0 ≤ most → Output (openText n conn stream)
+  isSend : (n : ℕ) (conn : ConnectionId) (stream : StreamId) (message : List ℕ) → n ≤ most → conn .0 ≤ most → stream .0 ≤ most → length message ≤ 156
+      → Output (sendText n conn stream message)
+  isReset : (n : ℕ) (conn : ConnectionId) (stream : StreamId) → n ≤ most → conn .0 ≤ most → stream .0 ≤ most → Output (resetText n conn stream)
+  isBurst : (n times payload : ℕ) (targets : List ℕ) → n ≤ most → times ≤ most → payload ≤ most → length targets ≤ 200 → Output (burstText n times payload targets)
+  isClose : (n : ℕ) (conn : ConnectionId) → n ≤ most → conn .0 ≤ most → Output (closeText n conn)
+  isUpgrade : (n : ℕ) (peer : PeerId) (old new : ConnectionId) → n ≤ most → peer .0 ≤ most → old .0 ≤ most → new .0 ≤ most → Output (upgradeText n peer old new)
+  isAttributed : (n : ℕ) (a : Attribution) → n ≤ most → OwnerFits (a .owner) → Output (attributionText n a)
+  isUnattributed : (n : ℕ) → n ≤ most → Output (unattributedText n)
+  isRefused : (n : ℕ) (why : Refusal) → n ≤ most → Output (refusedText n why)
+
+-- four texts, printed one behind the other from the buffer's first byte, stand there whole
+abbrev pub Whole : List ℕ → List ℕ → List ℕ → List ℕ → List ℕ → Type 0
+Whole buffer a b c d = take (behind buffer 0 (a ++ b ++ c ++ d)) (printed buffer 0 (a ++ b ++ c ++ d)) ≡ a ++ b ++ c ++ d
