@@ -1,5 +1,5 @@
 #!/usr/bin/env python3
-"""A plain model of the journal, written from the rules alone and not from the Rust.
+"""A plain model of the journal, which follows the text of the rule and shares no code with the Rust side.
 
 `model.py` reads a journal on standard input and prints its output. `model.py --many journal` answers many journals, each
 after a line with its length in bytes, each answer after a line with its own.

@@ -1,5 +1,5 @@
 #!/usr/bin/env python3
-"""A plain model of the test programs' lines, written from the rules alone and not from the Rust.
+"""A plain model of the test programs' lines, which follows the text of the rule and shares no code with the Rust side.
 
 `model_lines.py MODE` answers lines of that format; `model_lines.py --many MODE` answers many inputs, each after a line
 with its length in bytes, each answer after a line with its own.

@@ -31,9 +31,9 @@ high-port got a r = let w = room-says usual got a r in of-parsed (λ i p. leb 10
 
 limits : (xs ys : List (List ℕ)) → Sublist ys xs → KeepsLimits xs (bounded usual ys)
 limits xs ys s = record {
-  total = total-kept usual ys;
-  family = λ (ip : Ip). family-kept usual ip ys;
-  ip = λ (i : Ip). ip-kept usual i ys;
+  total = omega (arith, total-kept usual ys);
+  family = λ (ip : Ip). omega (arith, family-kept usual ip ys);
+  ip = λ (i : Ip). omega (arith, ip-kept usual i ys);
   port = all-pass (ofAddress (λ i p. leb 1024 p)) (bounded usual ys) (all-bounded usual (λ a. ofAddress (λ i p. leb 1024 p) a ≡ true) high-port ys);
   order = sub-trans (sub-bounded usual ys) s;
 }
@@ -177,8 +177,8 @@ short xs =
     let k = bounded usual xs in
     let u : count (hasSize 11) k ≤ count (inFamily (V4 0)) k = fewer (hasSize 11) (inFamily (V4 0)) k (all-map Sized (λ a. hasSize 11 a ≡ true → inFamily (V4 0) a ≡ true) (λ (a : List ℕ) (w : Sized a). w .short) k s) in
     let v : count (hasSize 23) k ≤ count (inFamily (V6 0 0)) k = fewer (hasSize 23) (inFamily (V6 0 0)) k (all-map Sized (λ a. hasSize 23 a ≡ true → inFamily (V6 0 0) a ≡ true) (λ (a : List ℕ) (w : Sized a). w .long) k s) in
-    let x : count (inFamily (V4 0)) k ≤ 4 = family-kept usual (V4 0) xs in
-    let y : count (inFamily (V6 0 0)) k ≤ 4 = family-kept usual (V6 0 0) xs in
+    let x : count (inFamily (V4 0)) k ≤ 4 = omega (arith, family-kept usual (V4 0) xs) in
+    let y : count (inFamily (V6 0 0)) k ≤ 4 = omega (arith, family-kept usual (V6 0 0) xs) in
     record {
       each = all-pass (λ a. either (hasSize 11 a) (hasSize 23 a)) k (all-map Sized (λ a. either (hasSize 11 a) (hasSize 23 a) ≡ true) (λ (a : List ℕ) (w : Sized a). w .is) k s);
       v4 = omega (arith, u, x);

@@ -8,6 +8,7 @@ use Rattle.prelude.specs.Choice.{pick}
 use Rattle.refusal.specs.declared.Refusal.the-variants.{LedgerFull}
 use Rattle.ids.specs.declared.PeerId.{PeerId}
 use Rattle.ids.specs.declared.ConnectionId.{ConnectionId}
+use Rattle.ids.specs.declared.ConnectId.{ConnectId}
 use Rattle.ids.specs.declared.NatToken.{NatToken}
 use Rattle.path.specs.declared.Attribution.{Attribution}
 use Rattle.path.specs.declared.DialPurpose.{DialPurpose}
@@ -23,11 +24,16 @@ use Rattle.rows.specs.declared.Table.{Table}
 use Rattle.rows.specs.declared.Keep.the-variants.{Lasting}
 use Rattle.rows.specs.Rows.{rowsOf, tableOf, kept, without, inserted, crowded}
 use Rattle.entries.specs.declared.Deadline.{Deadline}
+use Rattle.dials.specs.declared.Dropped.{Dropped}
+use Rattle.dials.specs.declared.Firsts.{Firsts}
+use Rattle.dials.specs.declared.FirstLive.{FirstLive}
+use Rattle.dials.specs.Dials.{pairs, abortWith, abortOf}
 use Rattle.entries.specs.Entries.{dialAt, pathAt, windowOpen, punchEnd, soonest}
 use Rattle.ledger.specs.declared.PathLedger.{PathLedger}
 use Rattle.ledger.specs.declared.Outcome.the-variants.{Accepted, Refused}
 use Rattle.ledger.specs.declared.Recorded.{Recorded}
 use Rattle.ledger.specs.declared.Finished.{Finished}
+use Rattle.ledger.specs.declared.Aborted.{Aborted}
 use Rattle.ledger.specs.declared.Answer.the-variants.{Path as Named, None as Unnamed, Refused as NotNamed}
 use Rattle.ledger.specs.declared.Attributed.{Attributed}
 use Rattle.ledger.specs.declared.Forgotten.{Forgotten}
@@ -74,6 +80,16 @@ dialStarted l conn token purpose = fullOr (crowded (conn .0) (dialsOf l)) l (wit
 
 unfoldable pub finishDial : PathLedger → ConnectionId → Finished
 finishDial l conn = record { ledger = withDials l (tableOf (without (conn .0) (dialsOf l))); dial = dialAt conn (dialsOf l) }
+
+-- the dials that are left take the place of the table's
+abbrev pub withDropped : PathLedger → Dropped → Aborted
+withDropped l dropped = record { ledger = withDials l (dropped .dials); retired = dropped .retired; close = dropped .close }
+
+unfoldable pub abortedWith : PathLedger → ConnectId → Firsts → Aborted
+abortedWith l id firsts = withDropped l (abortWith id (pairs (dialsOf l) (firsts .rows)))
+
+unfoldable pub abortedDials : PathLedger → ConnectId → PeerId → (PeerId → FirstLive) → Aborted
+abortedDials l id target first = withDropped l (abortOf id target first (dialsOf l))
 
 -- ---- windows
 unfoldable pub refusesPunches : PathLedger → PeerId → Bool

@@ -1,7 +1,13 @@
 // The path ledger (ledger.rs): the one place that decides by which path a connection came, and that knows why it was dialed.
 ghost use mathlib.Core.Path.{_≡_};
-ghost use Rattle.ledger.specs.Ledger.{emptyLedger, withDials, withWindows, withPaths, dialStarted, finishDial, refusesPunches, expectPunches, endPunches, judgedBy, attributed, replacedBy, forgotten, isPunched, ticked, nextDeadline, isQuiet};
+ghost use Rattle.dials.specs.Dials.{firstOf};
+ghost use Rattle.ledger.specs.Ledger.{emptyLedger, withDials, withWindows, withPaths, dialStarted, finishDial, withDropped, abortedWith, abortedDials, refusesPunches, expectPunches, endPunches, judgedBy, attributed, replacedBy, forgotten, isPunched, ticked, nextDeadline, isQuiet};
+use dials::Connections;
+use dials::Dropped;
+use dials::Firsts;
+use dials::Tokens;
 use entries::Deadline;
+use ids::ConnectId;
 use ids::ConnectionId;
 use ids::NatToken;
 use ids::PeerId;
@@ -36,6 +42,13 @@ pub enum Outcome {
 pub struct Recorded {
     pub ledger: PathLedger,
     pub outcome: Outcome,
+}
+
+// The ledger, the tokens that were retired and the connections to close.
+pub struct Aborted {
+    pub ledger: PathLedger,
+    pub retired: Tokens,
+    pub close: Connections,
 }
 
 pub struct Finished {
@@ -139,6 +152,42 @@ impl PathLedger {
             ledger: self.with_dials(rows::remove(dials, conn.0)),
             dial,
         }
+    }
+
+    fn with_dropped(self, dropped: Dropped) -> Aborted
+        ensures { λ r. ⌜ r ≡ withDropped self dropped ⌝ }
+    {
+        let dials = dropped.dials;
+        let retired = dropped.retired;
+        let close = dropped.close;
+        Aborted {
+            ledger: self.with_dials(dials),
+            retired,
+            close,
+        }
+    }
+
+    // Drops the dials of the attempt, where the first live connection is known for each row.
+    pub fn abort_with(self, id: ConnectId, firsts: Firsts) -> Aborted
+        ensures { λ r. ⌜ r ≡ abortedWith self id firsts ⌝ }
+    {
+        let dials = self.dials;
+        self.with_dropped(dials::abort_with(dials, id, firsts))
+    }
+
+    // Drops the dials of the attempt that connects to the target. The live connections come as two lists of numbers, a place of
+    // both being one record. A dial whose connection is its peer's first live one is not closed; a punch dial then keeps its row.
+    pub fn abort_attempt_dials(
+        self,
+        id: ConnectId,
+        target: PeerId,
+        peers: &[u64],
+        connections: &[u64],
+    ) -> Aborted
+        ensures { λ r. ⌜ r ≡ abortedDials self id target (firstOf (now (peers .entry)) (now (connections .entry))) ⌝ }
+    {
+        let dials = self.dials;
+        self.with_dropped(dials::abort_attempt_dials(dials, id, target, peers, connections))
     }
 
     // Whether `expect_punches` for the peer would be refused.

@@ -1,8 +1,6 @@
 -- What reading and writing answer, case by case.
 -- Assumes nothing.
--- ---- reading
--- what was measured says what the message is
-use mathlib.Core.Path.{_≡_, sym, ap, _∙_}
+use mathlib.Core.Path.{_≡_, refl, sym, ap, _∙_}
 use mathlib.Core.List.{List}
 use mathlib.Core.Bool.{Bool, true, false}
 use Prim.Native.Nat.{ℕ, _+_, _<_, _≤_}
@@ -17,14 +15,18 @@ use Rattle.wire.specs.Varint.{encoded}
 use Rattle.wire.specs.Frame.{maxMessageSize, framed}
 use Rattle.wire.specs.Lists.{listed, broken}
 use Rattle.wire.proofs.Stores.{sets-front, parts-stored}
-use Rattle.message.specs.Message.{Content, says, refused, accepted, addresses, contentOf, measured, kindOf, typeNumber, answered, filled, decodeOf, decodeInto}
+use Rattle.message.specs.Message.{Content, says, refused, accepted, addresses, contentOf, measured, kindOf, typeNumber, withRoom, answered, filled, decodeOf, decodeInto}
 use Rattle.message.specs.Encoding.{typeField, addressFields, messageBytes, sent, sentInto}
 use Rattle.message.specs.declared.Kind.{Kind}
 use Rattle.message.specs.declared.Measured.{Measured}
 use Rattle.message.specs.declared.Measured.the-variants as m
 use Rattle.message.specs.declared.Decoded.the-variants as d
 use Rattle.message.specs.declared.Encoded.the-variants as e
+use Rattle.message.proofs.Scan.{list-long}
 
+-- ---- reading
+
+-- what was measured says what the message is
 good-is : (x : Content) (k n : ℕ) → m.Good k n ≡ measured x → (x ≡ says k (addresses x)) × (n ≡ length (listed (addresses x)))
 good-is (says j l) k n e = let c : j ≡ k = cc in (rw c, cc)
 good-is (refused v) k n e = let c : _≡_ {A = ℕ} 0 1 = cc in absurd (omega arith)
@@ -70,6 +72,15 @@ module _ (s o : List ℕ) where
             sym (rw (le-ltb maxMessageSize (length s) h) (ap (answered (length o)) (the-message .0) ∙ rw (t, a, the-message .1))),
             b ∙ sets-front o (listed (addresses (contentOf s))) c ∙ sym (rw (le-ltb maxMessageSize (length s) h) (ap (filled o) (the-message .0) ∙ rw t)),
           )
+
+-- a room as long as the message is enough
+pub room-enough : (s : List ℕ) (room : ℕ) → length s ≤ maxMessageSize → length s ≤ room → decodeOf s room ≡ withRoom (contentOf s)
+unfolding decodeOf
+room-enough s room h g = rw (le-ltb maxMessageSize (length s) h) (go (contentOf s) (list-long s))
+  where
+    go : (x : Content) → length (listed (addresses x)) ≤ length s → answered room x ≡ withRoom x
+    go (says k xs) l = rw (le-ltb room (length (listed xs)) (omega arith))
+    go (refused w) l = refl
 
 -- ---- writing
 

@@ -1,6 +1,5 @@
 -- A field by its tag and its payload.
 -- Assumes nothing.
--- what a varint that was read says of its size
 use mathlib.Core.Path.{_≡_, sym, _∙_}
 use mathlib.Core.List.{List}
 use mathlib.Core.Bool.{true}
@@ -17,6 +16,7 @@ use Rattle.message.specs.Fields.{maxField, bytesField, payloadOf, fieldO
 use Rattle.message.specs.declared.Field.{Field}
 use Rattle.message.specs.declared.Field.the-variants as f
 
+-- what a varint that was read says of its size
 pub size-of : (s : List ℕ) {v n : ℕ} {r : Varint} → r ≡ varintOf s → r ≡ Value v n → (0 < n) × (n ≤ length s) × (n ≤ 10)
 size-of s {v} {n} e d = varint-size s v n (sym d ∙ e)
 

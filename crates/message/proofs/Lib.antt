@@ -1,5 +1,6 @@
 pub mod Fields
 pub mod Scan
+pub mod Fuel
 pub mod Addresses
 pub mod FieldList
 pub mod Answers

@@ -1,7 +1,5 @@
 -- Reading what was written gives the type and the addresses back, for every type and every list that is accepted.
 -- Assumes nothing.
--- ---- one field
--- a tag of one byte
 use mathlib.Core.Path.{_≡_, refl, sym, ap, _∙_}
 use mathlib.Core.List.{List, [], _∷_, _++_, append-assoc}
 use mathlib.Core.Bool.{Bool, true, false}
@@ -29,6 +27,9 @@ use Rattle.message.specs.declared.Field.the-variants as f
 use Rattle.message.specs.declared.Decoded.the-variants as d
 use Rattle.message.specs.declared.Encoded.the-variants as w
 
+-- ---- one field
+
+-- a tag of one byte
 tag-two : (s : List ℕ) → fieldOf (0x12 ∷ s) ≡ bytesField 2 1 s (varintOf s)
 unfolding fieldOf varintOf spanOf valueOf
 tag-two s = refl

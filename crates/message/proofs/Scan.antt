@@ -1,7 +1,5 @@
 -- A message field by field: each field has a size, and one turn goes past it.
 -- Assumes nothing.
--- ---- sizes
--- a field of a message of n bytes has a byte at least, an address two before it, and none reaches past the end
 use mathlib.Core.Path.{_≡_, refl, sym, ap, subst, _∙_}
 use mathlib.Core.List.{List, [], _∷_}
 use mathlib.Core.Bool.{Bool, true, false}
@@ -25,6 +23,9 @@ use Rattle.refusal.specs.declared.Refusal.the-variants as why
 use Rattle.message.specs.declared.Field.the-variants as f
 use Rattle.message.specs.declared.Measured.the-variants as m
 
+-- ---- sizes
+
+-- a field of a message of n bytes has a byte at least, an address two before it, and none reaches past the end
 abbrev pub Within : ℕ → Field → Type 0
 Within n (f.Typed v z) = (0 < z) × (z ≤ n)
 Within n (f.Address b l) = (2 ≤ b) × (b + l ≤ n)

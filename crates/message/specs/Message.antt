@@ -77,7 +77,12 @@ measured (refused w) = m.Refused w
 abbrev pub over : List ℕ → List ℕ → List ℕ
 over new out = new ++ drop (length new) out
 
--- the answer, where there is so much room for the list of addresses
+-- the answer, where there is room enough for the list of addresses
+abbrev pub withRoom : Content → Decoded
+withRoom (says k xs) = d.Message (kindOf k) (length (listed xs))
+withRoom (refused w) = d.Refused w
+
+-- the answer, where there is so much room
 abbrev pub answered : ℕ → Content → Decoded
 answered room (says k xs) = pick (ltb room (length (listed xs))) (d.Refused OutputTooShort) (d.Message (kindOf k) (length (listed xs)))
 answered room (refused w) = d.Refused w

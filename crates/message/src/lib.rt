@@ -13,7 +13,7 @@ ghost use Rattle.wire.specs.Varint.{encoded, varintOf};
 ghost use Rattle.wire.specs.Frame.{maxMessageSize};
 ghost use Rattle.wire.specs.Lists.{entries, listed};
 ghost use Rattle.message.specs.Fields.{varintField, fixedField, bytesField, payloadOf, fieldOf};
-ghost use Rattle.message.specs.Message.{typeNumber, known, kindOf, contentOf, accepted, addresses, measured, over, decodeOf, decodeInto};
+ghost use Rattle.message.specs.Message.{typeNumber, known, kindOf, contentOf, accepted, addresses, measured, over, withRoom, decodeOf, decodeInto};
 ghost use Rattle.message.specs.Encoding.{typeField, addressField, addressFields, encodeOf, encodeInto, frameEncodeOf, frameEncodeInto};
 
 // The type of a message: CONNECT is 100, SYNC is 300.
@@ -392,4 +392,9 @@ pub fn encode_frame(kind: Kind, list: &[u8], out: &mut [u8]) -> Encoded
 // Reading what was written gives the type and the addresses back, for every type and list that is accepted.
 pub fn encoded_reads_back()
     ensures { λ r. ⌜ ((k : Kind) (s out back : List ℕ) (n : ℕ) → ((i : ℕ) → getD s i 0 < 256) → encodeOf k s (length out) ≡ Encoded.Message n → length s ≤ length back → (decodeOf (take n (encodeInto k s out)) (length back) ≡ Decoded.Message k (length s)) × (decodeInto (take n (encodeInto k s out)) back ≡ over s back)) ⌝ }
+{}
+
+// A room as long as the message is always enough for its list of addresses.
+pub fn room_is_enough()
+    ensures { λ r. ⌜ ((m : List ℕ) (room : ℕ) → length m ≤ maxMessageSize → length m ≤ room → decodeOf m room ≡ withRoom (contentOf m)) ⌝ }
 {}

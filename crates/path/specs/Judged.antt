@@ -42,13 +42,16 @@ byClaim NoClaim other = other
 byClaim (Circuit relay owner) other = other
 byClaim (DirectClaim id) other = record { path = Direct; owner = Attempt id }
 
--- punched inbound while the peer's window lasts, else direct with no owner
-unfoldable pub byWindow : Bool → Attribution
-byWindow lasting = pick lasting (record { path = Punched; owner = Inbound }) (record { path = Direct; owner = NoOwner })
+-- punched inbound while the peer's window lasts
+unfoldable pub byWindow : Bool → Attribution → Attribution
+byWindow lasting other = pick lasting (record { path = Punched; owner = Inbound }) other
+
+abbrev pub unowned : Attribution
+unowned = record { path = Direct; owner = NoOwner }
 
 -- a direct connection: the first of the four that fits
 unfoldable pub directPath : FoundDial → Claim → Bool → Attribution
-directPath dial claim lasting = byDial dial (byClaim claim (byWindow lasting))
+directPath dial claim lasting = byDial dial (byClaim claim (byWindow lasting unowned))
 
 -- a circuit by its claim, any other connection as a direct one
 unfoldable pub judged : Bool → FoundDial → Claim → Bool → FoundPath

@@ -77,8 +77,8 @@ fn circuit_path(claim: Claim) -> FoundPath
 }
 
 // Punched inbound while the peer's window lasts.
-fn by_window(lasting: bool) -> Attribution
-    ensures { λ r. ⌜ r ≡ byWindow lasting ⌝ }
+fn by_window(lasting: bool, other: Attribution) -> Attribution
+    ensures { λ r. ⌜ r ≡ byWindow lasting other ⌝ }
 {
     if lasting {
         return Attribution {
@@ -86,10 +86,7 @@ fn by_window(lasting: bool) -> Attribution
             owner: Owner::Inbound,
         };
     }
-    Attribution {
-        path: Path::Direct,
-        owner: Owner::None,
-    }
+    other
 }
 
 // Direct for the attempt that claims it.
@@ -129,7 +126,11 @@ fn by_dial(dial: FoundDial, other: Attribution) -> Attribution
 fn direct_path(dial: FoundDial, claim: Claim, lasting: bool) -> Attribution
     ensures { λ r. ⌜ r ≡ directPath dial claim lasting ⌝ }
 {
-    let unclaimed = by_window(lasting);
+    let unowned = Attribution {
+        path: Path::Direct,
+        owner: Owner::None,
+    };
+    let unclaimed = by_window(lasting, unowned);
     let undialed = by_claim(claim, unclaimed);
     by_dial(dial, undialed)
 }

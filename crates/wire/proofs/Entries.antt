@@ -1,6 +1,5 @@
 -- An address list entry by entry: what stands at a place, and what it says of what is left from there.
 -- Assumes nothing.
--- ---- what stands at a place, by the tests on the way
 use mathlib.Core.Path.{_≡_, refl, sym, ap, _∙_}
 use mathlib.Core.Bool.{Bool, true, false}
 use mathlib.Core.List.{List, [], _∷_}
@@ -15,6 +14,8 @@ use Rattle.prelude.specs.Choice.{pick}
 use Rattle.wire.specs.Lists.{sizeAt, opens, along, entries, broken, entryAt}
 use Rattle.wire.specs.declared.Entry.{Entry}
 use Rattle.wire.specs.declared.Entry.the-variants.{Address, Broken, End}
+
+-- ---- what stands at a place, by the tests on the way
 
 pub is-end : (s : List ℕ) (at : ℕ) → length s ≤ at → End ≡ entryAt s at
 unfolding entryAt

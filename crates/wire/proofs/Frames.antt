@@ -1,6 +1,5 @@
 -- Frames: the verdict goes by the first two bytes and the count, a whole frame stays whole, and a message behind its length is one.
 -- Assumes nothing.
--- the second byte plays no part before it is there
 use mathlib.Core.Path.{_≡_, refl, sym, _∙_}
 use mathlib.Core.List.{List, [], _∷_, _++_, append-assoc}
 use mathlib.Core.Bool.{Bool, true, false}
@@ -12,11 +11,12 @@ use lib.Seq.{getD-take}
 use borrow.Author.Tests.{lt-ltb, le-ltb, le-leb, ne-eqb, ltb-true, ltb-false, leb-true, leb-false, eqb-true, eqb-false}
 use Rattle.prelude.specs.Choice.{pick}
 use Rattle.wire.specs.Varint.{encoded}
-use Rattle.wire.specs.Frame.{maxMessageSize, framed, reached, twoByteLength, frameFrom, frameOf}
+use Rattle.wire.specs.Frame.{maxMessageSize, maxFrameSize, framed, reached, twoByteLength, frameFrom, frameOf}
 use Rattle.wire.specs.declared.Frame.{Frame}
 use Rattle.wire.specs.declared.Frame.the-variants.{More, Whole, Broken}
 use Rattle.wire.proofs.Groups.{last-one, one-more}
 
+-- the second byte plays no part before it is there
 pub second-free : (b c d n : ℕ) → n ≤ 1 → frameFrom b c n ≡ frameFrom b d n
 unfolding frameFrom
 second-free b c d zero h = refl
@@ -80,10 +80,10 @@ frame-within b c n = go (eqb n 0) (ltb b 128) refl (eqb n 1) (eqb c 0) (ltb 127 
 
 -- ---- more bytes
 
--- a frame that is not yet whole is short of its length, which is at most 4,098 bytes with the message
+-- a frame that is not yet whole has fewer bytes than the longest
 abbrev pub Open : ℕ → Frame → Type 0
 Open n (Whole start len) = Unit
-Open n More = n ≤ maxMessageSize + 1
+Open n More = n < maxFrameSize
 Open n Broken = Unit
 
 reached-open : (start len n : ℕ) → start ≤ 2 → len ≤ maxMessageSize → Open n (reached start len n)

@@ -1,6 +1,5 @@
 -- How a varint is written: one group after the other, the least significant first.
 -- Assumes nothing.
--- the number below 128 is one group, whatever the count
 use mathlib.Core.Path.{_≡_, refl, ap}
 use mathlib.Core.List.{List, [], _∷_}
 use Prim.Native.Nat.{ℕ, zero, suc, _+_, _-_, _*_, _/_, _%_, _^_, _<_, _≤_}
@@ -12,6 +11,7 @@ use lib.Seq.{sets}
 use borrow.Author.Tests.{lt-ltb, le-ltb}
 use Rattle.wire.specs.Varint.{groups, encoded}
 
+-- the number below 128 is one group, whatever the count
 pub last-one : (n v : ℕ) → v < 128 → groups n v ≡ v ∷ []
 unfolding groups
 last-one zero v h = refl

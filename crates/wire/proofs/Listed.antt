@@ -1,6 +1,5 @@
 -- Addresses written behind their lengths are read back, and a list that is not broken is the list of its addresses.
 -- Assumes nothing.
--- what holds of every address
 use mathlib.Core.Bool.{Bool, true, false}
 use mathlib.Core.Path.{subst, sym, refl, _≡_, ap, _∙_}
 use mathlib.Core.List.{List, [], _∷_, _++_, append-assoc, append-nil}
@@ -13,6 +12,7 @@ use lib.Seq.{length-take-le, getD-drop, drop-drop, take-append-seam, drop-append
 use Rattle.wire.specs.Lists.{sizeAt, broken, opens, along, entries, entry, listed}
 use Rattle.wire.proofs.Entries.{once-round, opens-long}
 
+-- what holds of every address
 abbrev pub All : (List ℕ → Type 0) → List (List ℕ) → Type 0
 All P [] = Unit {0}
 All P (a ∷ xs) = P a × All P xs
@@ -34,6 +34,20 @@ read-back (x ∷ xs) h =
     let o : leb (length x) (length (entry x ++ listed xs) - 2) ≡ true = le-leb (length x) (length (entry x ++ listed xs) - 2) (omega arith) in
     let d : drop (2 + length x) (entry x ++ listed xs) ≡ listed xs = sym (drop-drop (length x) 2 (entry x ++ listed xs)) ∙ drop-append-seam x (listed xs) in
     once-round [] [] (λ a xs. a ∷ xs) (entry x ++ listed xs) ∙ rw (n, k, t, o) (rw (d, take-append-seam x (listed xs), read-back xs (h .1)))
+
+-- nor is such a list broken
+pub unbroken : (xs : List (List ℕ)) → All (λ a. length a < 65536) xs → broken (listed xs) ≡ false
+unfolding listed along
+unbroken [] h = refl
+unbroken (x ∷ xs) h =
+    let g : length x < 65536 = h .0 in
+    let k : length x / 256 % 256 * 256 + length x % 256 ≡ length x = omega arith in
+    let l : length (x ++ listed xs) ≡ length x + length (listed xs) = length-append x (listed xs) in
+    let n : eqb (length (entry x ++ listed xs)) 0 ≡ false = ne-eqb (length (entry x ++ listed xs)) 0 (λ (z : length (entry x ++ listed xs) ≡ 0). omega arith) in
+    let t : leb 2 (length (entry x ++ listed xs)) ≡ true = le-leb 2 (length (entry x ++ listed xs)) (omega arith) in
+    let o : leb (length x) (length (entry x ++ listed xs) - 2) ≡ true = le-leb (length x) (length (entry x ++ listed xs) - 2) (omega arith) in
+    let d : drop (2 + length x) (entry x ++ listed xs) ≡ listed xs = sym (drop-drop (length x) 2 (entry x ++ listed xs)) ∙ drop-append-seam x (listed xs) in
+    once-round false true (λ a b. b) (entry x ++ listed xs) ∙ rw (n, k, t, o) (rw d (unbroken xs (h .1)))
 
 nothing-listed : listed (entries []) ≡ []
 unfolding listed along

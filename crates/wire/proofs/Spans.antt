@@ -1,7 +1,5 @@
 -- How a varint is read: where it ends, and its number from the last group to the first.
 -- Assumes nothing.
--- ---- where it ends
--- a varint's length behind i more bytes; 0 stands for none
 use mathlib.Core.Path.{_≡_, refl, sym, subst, _∙_}
 use mathlib.Core.List.{List, [], _∷_}
 use mathlib.Core.Bool.{Bool, true, false}
@@ -20,6 +18,9 @@ use Rattle.prelude.specs.Choice.{pick}
 use Rattle.wire.specs.Varint.{valueOf, behind, spanOf, valued, varintOf}
 use Rattle.wire.specs.declared.Varint.the-variants.{Value, Malformed}
 
+-- ---- where it ends
+
+-- a varint's length behind i more bytes; 0 stands for none
 abbrev pub after : ℕ → ℕ → ℕ
 after i zero = 0
 after i (suc n) = i + suc n

@@ -1,6 +1,5 @@
 -- Bytes stored from a place on, one after the other and one part after the other.
 -- Assumes nothing.
--- nothing is stored past the end
 use mathlib.Core.Path.{_≡_, refl, sym, _∙_}
 use mathlib.Core.List.{List, [], _∷_, _++_}
 use Prim.Native.Nat.{ℕ, suc, _+_, _-_, _/_, _%_, _<_, _≤_}
@@ -11,6 +10,7 @@ use lib.ListN.{length, getD, drop, set, length-set, drop-of-length-le}
 use lib.Seq.{sets, sets-eq, set-out, drop-cons}
 use Rattle.wire.specs.Lists.{entry}
 
+-- nothing is stored past the end
 pub sets-out : (o : List ℕ) (p : ℕ) (a : List ℕ) → length o ≤ p → sets o p a ≡ o
 sets-out o p [] h = refl
 sets-out o p (x ∷ a) h =

@@ -12,6 +12,10 @@ use Rattle.wire.specs.declared.Frame.the-variants.{More, Whole, Broken}
 abbrev pub maxMessageSize : ℕ
 maxMessageSize = 4096
 
+-- the most bytes of a frame: two of length, then the message
+abbrev pub maxFrameSize : ℕ
+maxFrameSize = 4098
+
 -- a message behind its length
 abbrev pub framed : List ℕ → List ℕ
 framed m = encoded (length m) ++ m

@@ -104,6 +104,9 @@ pub fn put_varint(value: u64, out: &mut [u8], at: usize)
 // The most bytes of a message.
 pub const MAX_MESSAGE_SIZE: usize = 4096;
 
+// The most bytes of a frame: two of length, then the message.
+pub const MAX_FRAME_SIZE: usize = 4098;
+
 pub enum Frame {
     More,
     Whole { start: usize, len: usize },

@@ -7,6 +7,8 @@ use std::panic::{self, AssertUnwindSafe};
 use std::path::{Path, PathBuf};
 use std::process::{Child, ChildStdin, ChildStdout, Command, Stdio};
 
+use crate::bursts::LOOP_LIMIT;
+
 /// Something that answers inputs of one format.
 pub trait Side {
     fn answer(&mut self, input: &[u8]) -> io::Result<Vec<u8>>;
@@ -123,11 +125,19 @@ pub fn count(kinds: &mut Kinds, answer: &[u8]) {
         let kind = match words[..] {
             ["refused", why, ..] => format!("refused {why}"),
             ["attributed", path, ..] => format!("attributed {path}"),
+            ["burst", times, ..] if past_loop(times) => "burst counted by closed form".to_string(),
             [first, ..] => first.split(['=', ':']).next().unwrap_or(first).to_string(),
             [] => continue,
         };
         *kinds.entry(kind).or_default() += 1;
     }
+}
+
+fn past_loop(times: &str) -> bool {
+    let times = times
+        .strip_prefix("times=")
+        .and_then(|times| times.parse().ok());
+    times.is_some_and(|times: u64| times > LOOP_LIMIT)
 }
 
 /// Two sides of one format.

@@ -93,7 +93,7 @@ fn with_port(mut address: Vec<u8>, port: u16) -> Vec<u8> {
 fn port(rng: &mut Rng) -> u16 {
     match rng.below(8) {
         0 => rng.pick(&[0, 1, 1023, 1024, 1025, 65535]),
-        1 => rng.next() as u16,
+        1 => rng.draw() as u16,
         _ => 4001 + rng.below(3) as u16,
     }
 }
@@ -143,7 +143,7 @@ pub fn damage(rng: &mut Rng, bytes: &mut Vec<u8>) {
             bytes.remove(at);
         }
         2 => bytes.truncate(at),
-        _ => bytes.insert(at, rng.next() as u8),
+        _ => bytes.insert(at, rng.draw() as u8),
     }
 }
 

@@ -17,6 +17,7 @@ pub fn journal(seed: u64) -> Vec<u8> {
         14..20 => Maker::new(rng).full_dials(),
         20..30 => Maker::new(rng).full_paths(),
         30..45 => Maker::new(rng).ledger_windows(),
+        45..120 => Maker::new(rng).rounds(),
         _ => Maker::new(rng).ordinary(),
     }
 }
@@ -42,17 +43,24 @@ fn settings(rng: &mut Rng) -> Settings {
         2 => rng.number(),
         _ => rng.below(most + 1),
     };
-    Settings {
+    let interval = rng.pick(&[3, scale / 40 + 2, scale / 8 + 2]);
+    let mut made = Settings {
         scale,
         handshake: time(rng, scale),
         upgrade: time(rng, 8 * scale),
         exchange: time(rng, scale),
         punch: time(rng, scale),
-        interval: time(rng, scale / 8 + 2),
+        interval: time(rng, interval),
         payload: time(rng, 64),
         private: u64::from(rng.one_in(3)),
         upgrades: u64::from(!rng.one_in(30)),
+    };
+    if rng.one_in(10) {
+        // Windows with more instants than a loop should count.
+        made.upgrade = 1 << rng.pick(&[30, 50, 63]);
+        made.punch = 1 << rng.pick(&[20, 40, 62]);
     }
+    made
 }
 
 impl Settings {
@@ -123,9 +131,13 @@ impl Maker {
     }
 
     fn ordinary(mut self) -> Vec<u8> {
-        if self.rng.one_in(8) {
+        if self.rng.one_in(6) {
             for _ in 0..1 + self.rng.below(3) {
-                self.any_call();
+                if self.rng.one_in(3) {
+                    self.bad_line();
+                } else {
+                    self.any_call();
+                }
             }
         }
         let circuits = self.rng.pick(&[1, 1, 1, 2, 3]);
@@ -143,6 +155,51 @@ impl Maker {
             }
         }
         self.finish()
+    }
+
+    /// Circuits whose rounds come to their windows, most of them all three.
+    fn rounds(mut self) -> Vec<u8> {
+        if !self.rng.one_in(4) {
+            let scale = self.settings.scale;
+            self.settings.upgrade = self.settings.upgrade.max(5 * scale);
+            self.settings.exchange = self.settings.exchange.max(scale / 2);
+            self.settings.punch = self.settings.punch.max(scale / 4);
+            self.begin_anew();
+        }
+        for _ in 0..self.rng.pick(&[1, 1, 2]) {
+            self.start();
+            for _ in 0..60 {
+                self.smooth = !self.rng.one_in(25);
+                if !self.smooth {
+                    self.step();
+                } else if self.rng.one_in(12) {
+                    self.probe();
+                } else if self.run.circuit.over() {
+                    break;
+                } else {
+                    self.further();
+                }
+            }
+        }
+        self.finish()
+    }
+
+    /// The line that brings a round on.
+    fn further(&mut self) {
+        self.pass_time();
+        match self.run.circuit.pair() {
+            Some((_, stream)) if !self.run.circuit.asked() => self.input(stream, "ready", &[]),
+            Some((conn, stream)) => {
+                if self.rng.one_in(4) {
+                    let at = self.clock;
+                    self.say(format!("do=wrote at={at} conn={conn} stream={stream}"));
+                } else {
+                    self.piece(stream);
+                }
+            }
+            None if self.run.circuit.punching() => self.tick(),
+            None => self.up(self.source, self.circuit, "circuit"),
+        }
     }
 
     /// Circuits from more sources than the ledger has windows.
@@ -263,6 +320,10 @@ impl Maker {
         self.settings.punch %= 10_000;
         self.settings.upgrades = 1;
         self.clock %= 1_000;
+        self.begin_anew();
+    }
+
+    fn begin_anew(&mut self) {
         let line = self.settings.line();
         self.run = Journal::read(line.as_bytes()).expect("the settings are good");
         self.out = format!("{line}\n").into_bytes();
@@ -281,14 +342,7 @@ impl Maker {
         self.up(self.source, self.circuit, "circuit");
         if let Some((_, stream)) = self.run.circuit.pair() {
             self.input(stream, "ready", &[]);
-            let reply = match self.smooth {
-                true => [
-                    &[0x0f, 0x08, 0x64, 0x12, 0x0b][..],
-                    &addresses::v4(0x0808_0808, 4001),
-                ]
-                .concat(),
-                false => reply(&mut self.rng),
-            };
+            let reply = self.new_reply();
             self.input(stream, "data", &reply);
         }
     }
@@ -362,8 +416,8 @@ impl Maker {
         }
     }
 
-    /// Moves the clock: in a punch window most often around the next limit,
-    /// else most often a little, so that rounds reach their window.
+    /// Moves the clock: in a punch window over some of it, else most often a
+    /// little, so that rounds reach their window.
     fn pass_time(&mut self) {
         let next = self
             .run
@@ -372,8 +426,24 @@ impl Maker {
             .then(|| self.run.circuit.next_deadline());
         let next = next.flatten().unwrap_or(self.clock);
         let deadline = self.run.circuit.deadline();
-        let limit = if self.run.circuit.punching() { 20 } else { 3 };
-        self.clock = match self.rng.below(40 + limit) {
+        let punch = self.settings.punch;
+        if self.run.circuit.punching() && !self.rng.one_in(4) {
+            self.clock = match self.rng.below(60) {
+                0..20 => {
+                    let few = self.settings.interval.saturating_mul(5).saturating_add(2);
+                    self.clock.saturating_add(self.rng.below(few.min(punch)))
+                }
+                20..36 => self.clock.saturating_add(self.rng.below(punch)),
+                36..51 => self.rng.near(next),
+                51..58 => {
+                    let end = self.clock.saturating_add(punch);
+                    self.rng.near(end)
+                }
+                _ => self.rng.near(deadline),
+            };
+            return;
+        }
+        self.clock = match self.rng.below(43) {
             0..14 => self.clock,
             14..30 => {
                 let little = self.rng.pick(&[2, 2 + self.settings.scale / 16]);
@@ -384,21 +454,34 @@ impl Maker {
                 .saturating_add(self.rng.below(self.settings.scale)),
             31 => self.rng.near(deadline),
             32 => {
-                let window = next.saturating_add(self.settings.punch);
+                let window = next.saturating_add(punch);
                 self.rng.near(window)
             }
             33 | 34 => self.clock.saturating_sub(self.rng.below(30)),
             35 if self.rng.one_in(4) => self.rng.number(),
             35..38 => self.clock.saturating_add(self.settings.interval),
-            38 | 39 => self.clock.saturating_add(self.settings.punch),
+            38 | 39 => self.clock.saturating_add(punch.min(self.settings.scale)),
             _ => self.rng.near(next),
         };
+    }
+
+    /// A reply; a good CONNECT where rounds are to be had.
+    fn new_reply(&mut self) -> Vec<u8> {
+        if !self.smooth {
+            return reply(&mut self.rng);
+        }
+        let mut body = connect(&mut self.rng);
+        if self.rng.one_in(6) {
+            // The last type counts.
+            body.splice(0..0, [0x08, 0xac, 0x02]);
+        }
+        minip2p_core::encode_frame(&body)
     }
 
     /// The next bytes of the peer's reply.
     fn piece(&mut self, stream: u64) {
         if self.reply.is_empty() {
-            self.reply = reply(&mut self.rng);
+            self.reply = self.new_reply();
         }
         let most = self.reply.len();
         let cut = match self.rng.below(4) {
@@ -447,9 +530,16 @@ impl Maker {
     fn answers(&mut self, with_pending: bool) -> String {
         if self.smooth {
             self.stream += 4;
-            let pending = if with_pending { "pending=0 " } else { "" };
-            let (live, stream) = (self.circuit, self.stream);
-            return format!("live={live} offer={live}:{stream} {pending}own=-");
+            let pending = match with_pending {
+                true => format!("pending={} ", u8::from(self.rng.one_in(3))),
+                false => String::new(),
+            };
+            let own = match self.rng.one_in(3) {
+                true => addresses::list(&mut self.rng, 10),
+                false => Vec::new(),
+            };
+            let (live, stream, own) = (self.circuit, self.stream, hex(&own));
+            return format!("live={live} offer={live}:{stream} {pending}own={own}");
         }
         let rng = &mut self.rng;
         let live = match rng.below(30) {
@@ -573,14 +663,18 @@ impl Maker {
         ));
     }
 
-    /// A good line, damaged, or one at or over the longest.
+    /// A good line, most often damaged, or one at or over the longest.
     fn bad_line(&mut self) {
         let (at, answers) = (self.clock, self.answers(true));
         let (peer, conn) = (self.named(), self.named());
         let mut line = match self.rng.below(8) {
             0 => format!("do=start at={at} source={peer} relay=9 circuit={conn}"),
             1 => format!("do=up at={at} peer={peer} conn={conn} via=circuit {answers}"),
-            2 => format!("do=input at={at} stream={conn} kind=data data=0864 {answers}"),
+            2 => {
+                // Good with data alone.
+                let kind = self.rng.pick(&["data", "ready", "end", "closed"]);
+                format!("do=input at={at} stream={conn} kind={kind} data=0864 {answers}")
+            }
             3 => format!("do=tick at={at} live=7 offer=7:8 own=-"),
             4 => format!("do=wrote at={at} conn={conn} stream={peer}"),
             5 => format!("do=down at={at} peer={peer} conn={conn}"),
@@ -591,14 +685,17 @@ impl Maker {
         if self.rng.one_in(12) {
             let head = format!("do=tick at={at} live=none offer=none own=");
             let room = 32_767 - head.len();
-            let mut digits = "0".repeat(room - room % 2);
-            digits.truncate(room);
+            let digits = "0".repeat(room - room % 2);
             line = format!("{head}{digits}").into_bytes();
             let longer = self.rng.pick(&[0, 0, 1, 2, 3, 40_000]);
             line.extend(vec![b'0'; longer]);
         } else if self.rng.one_in(30) {
             line.clear();
-        } else {
+        } else if self.rng.one_in(8) {
+            // A good line but for capitals in its bytes.
+            let bytes = hex(&addresses::list(&mut self.rng, 2)).to_ascii_uppercase();
+            line = format!("do=tick at={at} live=7 offer=7:8 own={bytes}").into_bytes();
+        } else if !self.rng.one_in(8) {
             damage_line(&mut self.rng, &mut line);
         }
         self.say(line);
@@ -621,6 +718,15 @@ impl Maker {
         }
         self.out
     }
+}
+
+/// CONNECT with up to eleven addresses.
+fn connect(rng: &mut Rng) -> Vec<u8> {
+    let mut body = vec![0x08, 0x64];
+    for _ in 0..rng.below(12) {
+        minip2p_core::encode_bytes_field(&mut body, 2, &addresses::any(rng));
+    }
+    body
 }
 
 /// A framed reply: CONNECT with addresses most often, else any message,
@@ -649,13 +755,16 @@ fn reply(rng: &mut Rng) -> Vec<u8> {
             }
         }
         _ => {
-            body.extend_from_slice(&[0x08, 0x64]);
-            for _ in 0..rng.below(12) {
-                minip2p_core::encode_bytes_field(&mut body, 2, &addresses::any(rng));
-            }
+            body = connect(rng);
             if rng.one_in(12) {
                 let field = rng.pick(&[0, 3, 536_870_911, 536_870_912]);
                 minip2p_core::encode_varint_field(&mut body, field, rng.number());
+            }
+            if rng.one_in(20) {
+                // An unknown varint of ten bytes, its tenth around its limit.
+                body.push(0x18);
+                body.extend_from_slice(&[0xff; 9]);
+                body.push(rng.pick(&[0, 1, 2, 3]));
             }
         }
     }
@@ -685,7 +794,7 @@ fn damage_line(rng: &mut Rng, line: &mut Vec<u8>) {
         0 => {
             line.remove(at);
         }
-        1 => line[at] = rng.next() as u8,
+        1 => line[at] = rng.draw() as u8,
         2 => line.insert(at, line[at]),
         3 => line.insert(at, b' '),
         4 => line.push(b'\r'),

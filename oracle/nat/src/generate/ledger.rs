@@ -182,7 +182,8 @@ fn call(rng: &mut Rng, base: u64, span: u64, clock: &mut u64) -> String {
         11 => {
             let live: Vec<String> = (0..rng.below(6))
                 .map(|_| {
-                    let peer = rng.pick(&[relay, peer, rng.clone().below(4)]);
+                    let other = rng.below(4);
+                    let peer = rng.pick(&[relay, peer, other]);
                     format!("{peer}:{}", base + rng.below(span))
                 })
                 .collect();

@@ -335,7 +335,7 @@ pub(super) fn random(rng: &mut Rng) -> Vec<String> {
             let mut bytes = framed(&body(rng));
             if rng.one_in(3) {
                 let at = rng.index(bytes.len().min(3));
-                bytes[at] = rng.next() as u8;
+                bytes[at] = rng.draw() as u8;
             }
             let count = rng.index(bytes.len() + 1);
             let count = rng.pick(&[bytes.len(), count]);
@@ -415,7 +415,7 @@ pub(crate) fn body(rng: &mut Rng) -> Vec<u8> {
                 let wire = rng.pick(&[0, 1, 2, 5, 3, 4, 6, 7]);
                 other_field(rng, &mut out, field, wire);
             }
-            _ => out.push(rng.next() as u8 & 0x1f),
+            _ => out.push(rng.draw() as u8 & 0x1f),
         }
     }
     out

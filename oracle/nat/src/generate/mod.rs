@@ -10,13 +10,15 @@ mod rng;
 mod schedule;
 
 pub use journal::journal;
-pub use rng::Rng;
+use rng::Rng;
+
+type Random = fn(&mut Rng) -> Vec<String>;
 
 /// The cases named one by one, then `count` random lines; `None` for an
 /// unknown mode.
 pub fn lines(mode: &str, seed: u64, count: usize) -> Option<Vec<String>> {
     let mut rng = Rng::new(seed);
-    let (mut named, random): (Vec<String>, fn(&mut Rng) -> Vec<String>) = match mode {
+    let (mut named, random): (Vec<String>, Random) = match mode {
         "message" => (message::named(), message::random),
         "candidate" => (candidate::named(), candidate::random),
         "budget" => (budget::named(), budget::random),

@@ -11,10 +11,12 @@ use std::io::{self, Write};
 
 use crate::text;
 
+type Answer = dyn FnMut(&[u8]) -> Option<String>;
+
 /// Answers every line of `input` in the format that `mode` names; `None` for
 /// an unknown mode.
 pub fn run(mode: &str, input: &[u8], out: &mut impl Write) -> Option<io::Result<()>> {
-    let mut answer: Box<dyn FnMut(&[u8]) -> Option<String>> = match mode {
+    let mut answer: Box<Answer> = match mode {
         "message" => Box::new(message::answer),
         "candidate" => Box::new(candidate::answer),
         "budget" => {

@@ -1,0 +1,76 @@
+-- Steps along rows that each have a value beside them, and along the live connections. Assumes nothing.
+use Prim.Native.Nat.{ℕ, zero, suc, _≤_, _<_, _+_}
+use mathlib.Core.Path.{_≡_, refl, ap, sym, _∙_, subst}
+use mathlib.Core.Bool.{true, false}
+use mathlib.Core.List.{List, [], _∷_, _++_, append-assoc, append-nil, map}
+use native.Mathlib.Omega.{arith}
+use native.Mathlib.Numerals.{add-one}
+use native.Mathlib.Nat.{not-suc-le-zero, le-of-suc-le-suc}
+use lib.ListN.{set, length, getD, take, drop, length-take, drop-of-length-le}
+use lib.Seq.{take-suc, getD-take, drop-cons}
+use lib.Dec.{eqb}
+use Rattle.rows.proofs.Fill.{Filled, fill-more}
+use Rattle.ids.specs.declared.PeerId.{PeerId}
+use Rattle.dials.specs.declared.FirstLive.the-variants.{None as NoLive, At as LiveAt}
+use Rattle.dials.specs.Dials.{each, pairs, firstOf}
+
+module _ {A B : Type 0} where
+  pub length-pairs : (xs : List A) (ys : List B) → length xs ≤ length ys → length (pairs xs ys) ≡ length xs
+  unfolding pairs
+  length-pairs [] ys h = refl
+  length-pairs (x ∷ xs) [] h = absurd (not-suc-le-zero h)
+  length-pairs (x ∷ xs) (y ∷ ys) h = ap suc (length-pairs xs ys (le-of-suc-le-suc h))
+
+  pairs-at : (xs : List A) (ys : List B) (i : ℕ) (d : A) (e : B) → i < length xs → length xs ≤ length ys → getD (pairs xs ys) i (d, e) ≡ (getD xs i d, getD ys i e)
+  unfolding pairs
+  pairs-at [] ys i d e l h = absurd (not-suc-le-zero l)
+  pairs-at (x ∷ xs) [] i d e l h = absurd (not-suc-le-zero h)
+  pairs-at (x ∷ xs) (y ∷ ys) zero d e l h = refl
+  pairs-at (x ∷ xs) (y ∷ ys) (suc i) d e l h = pairs-at xs ys i d e (le-of-suc-le-suc l) (le-of-suc-le-suc h)
+
+  -- beside each of the first k its value
+  pub pairs-map : (f : A → B) (k : ℕ) (xs : List A) → pairs (take k xs) (map f xs) ≡ map (λ (x : A). (x, f x)) (take k xs)
+  unfolding pairs
+  pairs-map f zero xs = refl
+  pairs-map f (suc k) [] = refl
+  pairs-map f (suc k) (x ∷ xs) = ap (λ (l : List (A × B)). (x, f x) ∷ l) (pairs-map f k xs)
+
+  pub each-append : (f : A → List B) (a b : List A) → each f (a ++ b) ≡ each f a ++ each f b
+  unfolding each
+  each-append f [] b = refl
+  each-append f (x ∷ a) b = ap (λ (l : List B). f x ++ l) (each-append f a b) ∙ sym (append-assoc (f x) (each f a) (each f b))
+
+module _ {A B C : Type 0} (f : A × B → List C) (xs : List A) (k i : ℕ) (ys : List B) (d : A) (e : B) (l : i < length (take k xs)) (h : length (take k xs) ≤ length ys) where
+  each-more : each f (take (i + 1) (pairs (take k xs) ys)) ≡ each f (take i (pairs (take k xs) ys)) ++ f (getD xs i d, getD ys i e)
+  unfolding each
+  each-more =
+      let b : i < k = omega (arith, length-take k xs) in
+      let q : i < length (pairs (take k xs) ys) = omega (arith, length-pairs (take k xs) ys h) in
+      let g : getD (pairs (take k xs) ys) i (d, e) ≡ (getD xs i d, getD ys i e) = pairs-at (take k xs) ys i d e l h ∙ ap (λ (x : A). (x, getD ys i e)) (getD-take k xs i d b) in
+      let t : take (i + 1) (pairs (take k xs) ys) ≡ take i (pairs (take k xs) ys) ++ ((getD xs i d, getD ys i e) ∷ []) = simp (add-one, take-suc (pairs (take k xs) ys) i (d, e) q, g) in
+      ap (each f) t ∙ each-append f (take i (pairs (take k xs) ys)) ((getD xs i d, getD ys i e) ∷ []) ∙ simp append-nil
+
+  module _ {z : C} {array : List C} {n : ℕ} (filled : Filled z array n (each f (take i (pairs (take k xs) ys)))) where
+    pub gives : (y : C) → f (getD xs i d, getD ys i e) ≡ y ∷ [] → n < 64 → Filled z (set array n y) (n + 1) (each f (take (i + 1) (pairs (take k xs) ys)))
+    gives y g b = subst (Filled z (set array n y) (n + 1)) (sym (each-more ∙ ap (λ (t : List C). each f (take i (pairs (take k xs) ys)) ++ t) g)) (fill-more filled y b)
+
+    pub gives-none : f (getD xs i d, getD ys i e) ≡ [] → Filled z array n (each f (take (i + 1) (pairs (take k xs) ys)))
+    gives-none g = subst (Filled z array n) (sym (each-more ∙ ap (λ (t : List C). each f (take i (pairs (take k xs) ys)) ++ t) g ∙ append-nil _)) filled
+
+-- ---- the first record of a peer
+module _ (ps cs : List ℕ) (peer : PeerId) (i : ℕ) where
+  pub first-none : length ps ≤ i → firstOf (drop i ps) (drop i cs) peer ≡ NoLive
+  unfolding firstOf
+  first-none h = simp (drop-of-length-le ps h)
+
+  pub first-short : i < length ps → length cs ≤ i → firstOf (drop i ps) (drop i cs) peer ≡ NoLive
+  unfolding firstOf
+  first-short l h = simp (drop-of-length-le cs h, drop-cons ps i 0 l)
+
+  pub first-here : i < length ps → i < length cs → eqb (getD ps i 0) (peer .0) ≡ true → firstOf (drop i ps) (drop i cs) peer ≡ LiveAt (record { 0 = getD cs i 0 })
+  unfolding firstOf
+  first-here l h e = simp (drop-cons ps i 0 l, drop-cons cs i 0 h, e)
+
+  pub first-on : i < length ps → i < length cs → eqb (getD ps i 0) (peer .0) ≡ false → firstOf (drop i ps) (drop i cs) peer ≡ firstOf (drop (i + 1) ps) (drop (i + 1) cs) peer
+  unfolding firstOf
+  first-on l h e = simp (drop-cons ps i 0 l, drop-cons cs i 0 h, e, add-one)

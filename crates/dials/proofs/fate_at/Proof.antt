@@ -1,0 +1,54 @@
+use Rattle.dials.specs.Dials.{fateAt}
+use mathlib.Core.Path.{sym}
+use borrow.Author.Needs.{needs}
+use Rattle.dials.proofs.fate_at.Statement.{statement}
+use Rattle.dials.proofs.fate_at.Tie as tie
+
+is-first-requires : tie.Need-is-first-requires
+is-first-requires c κs = search needs
+
+enum-known-entry : tie.Need-enum-known-entry
+enum-known-entry c = search needs
+
+fate-of-requires : tie.Need-fate-of-requires
+fate-of-requires c κs = search needs
+
+enum-told : tie.Need-enum-told
+enum-told c = search needs
+
+enum-told-2 : tie.Need-enum-told-2
+enum-told-2 c = search needs
+
+enum-told-3 : tie.Need-enum-told-3
+enum-told-3 c = search needs
+
+returns : tie.Need-returns
+unfolding fateAt
+returns c = simp (sym (c .fate-of .ensures), c .before .before .entry .given .1, sym (c .before .before .before .before .is-first .ensures))
+
+returns-2 : tie.Need-returns-2
+unfolding fateAt
+returns-2 c = simp (c .enum-told .given .1, sym (c .before .before .is-first .ensures))
+
+returns-3 : tie.Need-returns-3
+unfolding fateAt
+returns-3 c = simp (c .enum-told2 .given .1, sym (c .before .before .is-first .ensures))
+
+returns-4 : tie.Need-returns-4
+unfolding fateAt
+returns-4 c = simp (c .enum-told3 .given .1, sym (c .before .before .is-first .ensures))
+
+pub fate-at-spec : {M : Type 1} → statement M
+fate-at-spec =
+    tie.close
+    (tie.spec
+    is-first-requires
+    enum-known-entry
+    fate-of-requires
+    enum-told
+    enum-told-2
+    enum-told-3
+    returns
+    returns-2
+    returns-3
+    returns-4)

@@ -1,0 +1,137 @@
+-- Dropping the dials of an attempt (RULES.md, section 10.4).
+use Prim.Native.Nat.{ℕ}
+use mathlib.Core.Bool.{Bool, false}
+use mathlib.Core.List.{List, [], _∷_, _++_, map}
+use lib.ListN.{length, take}
+use lib.Dec.{eqb}
+use Rattle.prelude.specs.Choice.{pick}
+use Rattle.ids.specs.declared.PeerId.{PeerId}
+use Rattle.ids.specs.declared.ConnectionId.{ConnectionId}
+use Rattle.ids.specs.declared.ConnectId.{ConnectId}
+use Rattle.ids.specs.declared.NatToken.{NatToken}
+use Rattle.path.specs.declared.DialPurpose.{DialPurpose}
+use Rattle.path.specs.declared.DialPurpose.the-variants.{Relay, Punch, Probe, Reserve}
+use Rattle.path.specs.declared.Dial.{Dial}
+use Rattle.rows.specs.declared.Entry.{Entry}
+use Rattle.rows.specs.declared.Entry.the-variants.{Free, Dialed, Window}
+use Rattle.rows.specs.declared.Entry.the-variants.{Path as PathEntry}
+use Rattle.rows.specs.declared.Row.{Row}
+use Rattle.rows.specs.declared.Table.{Table}
+use Rattle.rows.specs.Rows.{padded, tableOf}
+use Rattle.dials.specs.declared.FirstLive.{FirstLive}
+use Rattle.dials.specs.declared.FirstLive.the-variants.{None as NoLive, At as LiveAt}
+use Rattle.dials.specs.declared.First.{First}
+use Rattle.dials.specs.declared.Firsts.{Firsts}
+use Rattle.dials.specs.declared.Fate.{Fate}
+use Rattle.dials.specs.declared.Fate.the-variants.{Other, Stays, Goes, Closes}
+use Rattle.dials.specs.declared.Tokens.{Tokens}
+use Rattle.dials.specs.declared.Connections.{Connections}
+use Rattle.dials.specs.declared.Dropped.{Dropped}
+
+-- ---- the live connections
+-- the connection of the first record that has the peer; a record is a place of both lists
+unfoldable pub firstOf : List ℕ → List ℕ → PeerId → FirstLive
+firstOf [] cs peer = NoLive
+firstOf (p ∷ ps) [] peer = NoLive
+firstOf (p ∷ ps) (c ∷ cs) peer = pick (eqb p (peer .0)) (LiveAt (record { 0 = c })) (firstOf ps cs peer)
+
+-- the peer to ask for: the relay of a relay dial, else the attempt's target
+unfoldable pub askedBy : DialPurpose → PeerId → PeerId
+askedBy (Relay attempt relay) target = relay
+askedBy (Punch attempt) target = target
+askedBy (Probe peer) target = target
+askedBy (Reserve peer) target = target
+
+abbrev pub askedEntry : Entry → PeerId → PeerId
+askedEntry Free target = target
+askedEntry (Dialed dial) target = askedBy (dial .purpose) target
+askedEntry (Window end) target = target
+askedEntry (PathEntry attribution) target = target
+
+unfoldable pub askedOf : PeerId → Row → PeerId
+askedOf target row = askedEntry (row .entry) target
+
+-- what is found for a row
+unfoldable pub firstFor : PeerId → (PeerId → FirstLive) → Row → First
+firstFor target first row = record { live = first (askedOf target row) }
+
+unfoldable pub firstsOf : PeerId → (PeerId → FirstLive) → Table → Firsts
+firstsOf target first dials = record { rows = map (firstFor target first) (dials .rows) }
+
+abbrev pub noFirst : First
+noFirst = record { live = NoLive }
+
+-- ---- what becomes of a dial
+unfoldable pub isFirst : FirstLive → ℕ → Bool
+isFirst (LiveAt first) conn = eqb (first .0) conn
+isFirst NoLive conn = false
+
+-- of the attempt's dials a live punch dial keeps its row, a live relay dial loses it, any other is closed too
+abbrev pub fateBy : DialPurpose → ConnectId → Bool → NatToken → Fate
+fateBy (Relay attempt relay) id live token = pick (eqb (attempt .0) (id .0)) (pick live (Goes token) (Closes token)) Other
+fateBy (Punch attempt) id live token = pick (eqb (attempt .0) (id .0)) (pick live (Stays token) (Closes token)) Other
+fateBy (Probe peer) id live token = Other
+fateBy (Reserve peer) id live token = Other
+
+unfoldable pub fateOf : ConnectId → Bool → Dial → Fate
+fateOf id live dial = fateBy (dial .purpose) id live (dial .token)
+
+abbrev pub fateEntry : Entry → ConnectId → Bool → Fate
+fateEntry Free id live = Other
+fateEntry (Dialed dial) id live = fateOf id live dial
+fateEntry (Window end) id live = Other
+fateEntry (PathEntry attribution) id live = Other
+
+unfoldable pub fateAt : ConnectId → Row → First → Fate
+fateAt id row first = fateEntry (row .entry) id (isFirst (first .live) (row .key))
+
+-- ---- what is left, retired and closed
+abbrev pub leftBy : Row → Fate → List Row
+leftBy row Other = row ∷ []
+leftBy row (Stays token) = row ∷ []
+leftBy row (Goes token) = []
+leftBy row (Closes token) = []
+
+abbrev pub retiredBy : Fate → List NatToken
+retiredBy Other = []
+retiredBy (Stays token) = token ∷ []
+retiredBy (Goes token) = token ∷ []
+retiredBy (Closes token) = token ∷ []
+
+abbrev pub closedBy : Row → Fate → List ConnectionId
+closedBy row Other = []
+closedBy row (Stays token) = []
+closedBy row (Goes token) = []
+closedBy row (Closes token) = (record { 0 = row .key }) ∷ []
+
+-- what each gives, in order
+unfoldable pub each : {A B : Type 0} → (A → List B) → List A → List B
+each f [] = []
+each f (x ∷ xs) = f x ++ each f xs
+
+unfoldable pub pairs : {A B : Type 0} → List A → List B → List (A × B)
+pairs [] bs = []
+pairs (a ∷ as′) [] = []
+pairs (a ∷ as′) (b ∷ bs) = (a, b) ∷ pairs as′ bs
+
+unfoldable pub tokensOf : List NatToken → Tokens
+tokensOf ts = record { tokens = padded (record { 0 = 0 }) (take 64 ts); count = length (take 64 ts) }
+
+unfoldable pub connectionsOf : List ConnectionId → Connections
+connectionsOf cs = record { connections = padded (record { 0 = 0 }) (take 64 cs); count = length (take 64 cs) }
+
+-- of a row and what is found for it
+abbrev pub leftOf : ConnectId → Row × First → List Row
+leftOf id p = leftBy (p .0) (fateAt id (p .0) (p .1))
+
+abbrev pub retiredOf : ConnectId → Row × First → List NatToken
+retiredOf id p = retiredBy (fateAt id (p .0) (p .1))
+
+abbrev pub closedOf : ConnectId → Row × First → List ConnectionId
+closedOf id p = closedBy (p .0) (fateAt id (p .0) (p .1))
+
+unfoldable pub abortWith : ConnectId → List (Row × First) → Dropped
+abortWith id ps = record { dials = tableOf (each (leftOf id) ps); retired = tokensOf (each (retiredOf id) ps); close = connectionsOf (each (closedOf id) ps) }
+
+unfoldable pub abortOf : ConnectId → PeerId → (PeerId → FirstLive) → List Row → Dropped
+abortOf id target first rs = abortWith id (map (λ (r : Row). (r, firstFor target first r)) rs)

@@ -1,0 +1,276 @@
+// Dropping the dials of a connect attempt (`abort_attempt_dials` of ledger.rs), over the table of dials.
+ghost use mathlib.Core.Path.{_≡_};
+ghost use lib.ListN.{replicate};
+ghost use mathlib.Core.List.{[]};
+ghost use Rattle.rows.specs.Rows.{rowsOf};
+ghost use Rattle.dials.specs.Dials.{tokensOf, connectionsOf, noFirst, askedBy, askedOf, firstOf, firstsOf, isFirst, fateOf, fateAt, pairs, abortWith, abortOf};
+use ids::ConnectId;
+use ids::ConnectionId;
+use ids::NatToken;
+use ids::PeerId;
+use path::Dial;
+use path::DialPurpose;
+use rows::Entry;
+use rows::Row;
+use rows::Table;
+
+// A peer's first live connection, if it has one.
+pub enum FirstLive {
+    None,
+    At(ConnectionId),
+}
+
+pub struct First {
+    pub live: FirstLive,
+}
+
+// The first live connection of the peer to ask for, for each row of the table.
+pub struct Firsts {
+    pub rows: [First; 64],
+}
+
+pub struct Tokens {
+    pub tokens: [NatToken; 64],
+    pub count: u64,
+}
+
+pub struct Connections {
+    pub connections: [ConnectionId; 64],
+    pub count: u64,
+}
+
+// The dials that are left, the tokens that were retired and the connections to close, ascending by connection.
+pub struct Dropped {
+    pub dials: Table,
+    pub retired: Tokens,
+    pub close: Connections,
+}
+
+// What becomes of a dial.
+pub enum Fate {
+    // It is another attempt's, or no attempt's.
+    Other,
+    // A punch dial whose connection is live: its row stays.
+    Stays(NatToken),
+    // A relay dial whose connection is live: its row goes.
+    Goes(NatToken),
+    // Its connection is not the peer's first live one: the row goes, and the connection is closed.
+    Closes(NatToken),
+}
+
+fn no_tokens() -> Tokens
+    ensures { λ r. ⌜ r ≡ tokensOf [] ⌝ }
+{
+    let none = NatToken(0);
+    Tokens {
+        tokens: [none; 64],
+        count: 0,
+    }
+}
+
+fn no_connections() -> Connections
+    ensures { λ r. ⌜ r ≡ connectionsOf [] ⌝ }
+{
+    let none = ConnectionId(0);
+    Connections {
+        connections: [none; 64],
+        count: 0,
+    }
+}
+
+fn no_firsts() -> Firsts
+    ensures { λ r. ⌜ r .rows ≡ replicate 64 noFirst ⌝ }
+{
+    let none = First {
+        live: FirstLive::None,
+    };
+    Firsts { rows: [none; 64] }
+}
+
+// The peer to ask for: the relay of a relay dial, else the attempt's target.
+fn asked_by(purpose: DialPurpose, target: PeerId) -> PeerId
+    ensures { λ r. ⌜ r ≡ askedBy purpose target ⌝ }
+{
+    match purpose {
+        DialPurpose::Relay(_, relay) => relay,
+        DialPurpose::Punch(_) => target,
+        DialPurpose::Probe(_) => target,
+        DialPurpose::Reserve(_) => target,
+    }
+}
+
+pub fn asked_of(row: Row, target: PeerId) -> PeerId
+    ensures { λ r. ⌜ r ≡ askedOf target row ⌝ }
+{
+    let entry = row.entry;
+    match entry {
+        Entry::Dialed(dial) => {
+            let purpose = dial.purpose;
+            asked_by(purpose, target)
+        }
+        Entry::Free => target,
+        Entry::Window(_) => target,
+        Entry::Path(_) => target,
+    }
+}
+
+// The connection of the first record that has the peer. A record is a place of both lists.
+fn first_of(peers: &[u64], connections: &[u64], peer: PeerId) -> FirstLive
+    ensures { λ r. ⌜ r ≡ firstOf (now (peers .entry)) (now (connections .entry)) peer ⌝ }
+{
+    let mut i: usize = 0;
+    while i < peers.len() {
+        if connections.len() <= i {
+            return FirstLive::None;
+        }
+        if peers[i] == peer.0 {
+            return FirstLive::At(ConnectionId(connections[i]));
+        }
+        i += 1;
+    }
+    FirstLive::None
+}
+
+fn firsts_of(dials: Table, target: PeerId, peers: &[u64], connections: &[u64]) -> Firsts
+    ensures { λ r. ⌜ r ≡ firstsOf target (firstOf (now (peers .entry)) (now (connections .entry))) dials ⌝ }
+{
+    let none = no_firsts();
+    let mut rows = none.rows;
+    let mut k: usize = 0;
+    while k < 64 {
+        let row = dials.rows[k];
+        let live = first_of(peers, connections, asked_of(row, target));
+        let first = First { live };
+        rows[k] = first;
+        k += 1;
+    }
+    Firsts { rows }
+}
+
+fn is_first(live: FirstLive, conn: u64) -> bool
+    ensures { λ r. ⌜ r ≡ isFirst live conn ⌝ }
+{
+    match live {
+        FirstLive::At(first) => first.0 == conn,
+        FirstLive::None => false,
+    }
+}
+
+// What becomes of a dial of the attempt.
+fn fate_of(dial: Dial, id: ConnectId, live: bool) -> Fate
+    ensures { λ r. ⌜ r ≡ fateOf id live dial ⌝ }
+{
+    let token = dial.token;
+    let purpose = dial.purpose;
+    match purpose {
+        DialPurpose::Relay(attempt, _) => {
+            if attempt.0 != id.0 {
+                return Fate::Other;
+            }
+            if live {
+                return Fate::Goes(token);
+            }
+            Fate::Closes(token)
+        }
+        DialPurpose::Punch(attempt) => {
+            if attempt.0 != id.0 {
+                return Fate::Other;
+            }
+            if live {
+                return Fate::Stays(token);
+            }
+            Fate::Closes(token)
+        }
+        DialPurpose::Probe(_) => Fate::Other,
+        DialPurpose::Reserve(_) => Fate::Other,
+    }
+}
+
+fn fate_at(row: Row, id: ConnectId, first: First) -> Fate
+    ensures { λ r. ⌜ r ≡ fateAt id row first ⌝ }
+{
+    let key = row.key;
+    let entry = row.entry;
+    let live = first.live;
+    let is_live = is_first(live, key);
+    match entry {
+        Entry::Dialed(dial) => fate_of(dial, id, is_live),
+        Entry::Free => Fate::Other,
+        Entry::Window(_) => Fate::Other,
+        Entry::Path(_) => Fate::Other,
+    }
+}
+
+// Drops the dials of the attempt, where the first live connection is known for each row.
+pub fn abort_with(dials: Table, id: ConnectId, firsts: Firsts) -> Dropped
+    ensures { λ r. ⌜ r ≡ abortWith id (pairs (rowsOf dials) (firsts .rows)) ⌝ }
+{
+    let n = rows::used(dials);
+    let left_none = rows::empty();
+    let retired_none = no_tokens();
+    let close_none = no_connections();
+    let mut left = left_none.rows;
+    let mut tokens = retired_none.tokens;
+    let mut connections = close_none.connections;
+    let mut a: usize = 0;
+    let mut b: usize = 0;
+    let mut m: usize = 0;
+    let mut i: usize = 0;
+    while i < n {
+        let row = dials.rows[i];
+        let first = firsts.rows[i];
+        i += 1;
+        let fate = fate_at(row, id, first);
+        match fate {
+            Fate::Other => {
+                left[m] = row;
+                m += 1;
+            }
+            Fate::Stays(token) => {
+                left[m] = row;
+                m += 1;
+                tokens[a] = token;
+                a += 1;
+            }
+            Fate::Goes(token) => {
+                tokens[a] = token;
+                a += 1;
+            }
+            Fate::Closes(token) => {
+                tokens[a] = token;
+                a += 1;
+                let conn = ConnectionId(row.key);
+                connections[b] = conn;
+                b += 1;
+            }
+        }
+    }
+    Dropped {
+        dials: Table {
+            rows: left,
+            count: m as u64,
+        },
+        retired: Tokens {
+            tokens,
+            count: a as u64,
+        },
+        close: Connections {
+            connections,
+            count: b as u64,
+        },
+    }
+}
+
+// Drops the dials of the attempt. The live connections come as two lists of numbers, a place of both being one record.
+pub fn abort_attempt_dials(
+    dials: Table,
+    id: ConnectId,
+    target: PeerId,
+    peers: &[u64],
+    connections: &[u64],
+) -> Dropped
+    ensures { λ r. ⌜ r ≡ abortOf id target (firstOf (now (peers .entry)) (now (connections .entry))) (rowsOf dials) ⌝ }
+{
+    let firsts = firsts_of(dials, target, peers, connections);
+    abort_with(dials, id, firsts)
+}

@@ -1,0 +1,11 @@
+-- `initiator::count_stays_below` meets its contract: it is the law `count-below`.
+-- Assumes nothing.
+use Rattle.initiator.proofs.Gathers.{count-below}
+use Rattle.initiator.proofs.count_stays_below.Statement.{statement}
+use Rattle.initiator.proofs.count_stays_below.Tie as tie
+
+returns : tie.Need-returns
+returns c = count-below
+
+pub count-stays-below-spec : {M : Type 1} → statement M
+count-stays-below-spec = tie.close (tie.spec returns)

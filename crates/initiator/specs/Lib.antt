@@ -1,0 +1,3 @@
+pub mod Sent
+pub mod Gathering
+pub mod Replies

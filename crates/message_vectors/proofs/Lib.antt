@@ -1,0 +1,2 @@
+pub mod Requesting
+pub mod Answering

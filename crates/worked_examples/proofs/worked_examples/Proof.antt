@@ -1,0 +1,31 @@
+-- `worked_examples::worked_examples` meets its contract: each row is computed. Assumes nothing.
+use mathlib.Core.Path.{refl}
+use Rattle.wire.specs.Frame.{frameFrom}
+use Rattle.address.specs.Multiaddr.{bigEndian, hasForm, parsed}
+use Rattle.address.specs.Words.{globalUnicast4, mayBeTarget}
+use Rattle.candidates.specs.Entries.{count, only}
+use Rattle.candidates.specs.Selection.{room, bounded, selected}
+use Rattle.schedule.specs.Instants.{halfOf}
+use Rattle.worked_examples.specs.Table.{WorkedExamples}
+use Rattle.worked_examples.proofs.worked_examples.Statement.{statement}
+use Rattle.worked_examples.proofs.worked_examples.Tie as tie
+
+returns : tie.Need-returns
+unfolding selected bounded only count room parsed hasForm bigEndian mayBeTarget globalUnicast4 halfOf frameFrom
+returns c =
+    record {
+      anycast = refl;
+      protocol = refl;
+      private = refl;
+      behind = refl;
+      low = refl;
+      lowest = refl;
+      third = refl;
+      fifth = refl;
+      half = refl;
+      longest = refl;
+      over = refl;
+    }
+
+pub worked-examples-spec : {M : Type 1} → statement M
+worked-examples-spec = tie.close (tie.spec returns)

@@ -1,0 +1,46 @@
+-- The worked examples of the rule, in one table: what a definition gives, and what it must be (RULES.md, sections 4, 6, 7 and 9).
+use mathlib.Core.Path.{_≡_}
+use mathlib.Core.Bool.{false}
+use mathlib.Core.List.{List, [], _∷_, _++_}
+use Prim.Native.Nat.{ℕ, _/_, _%_}
+use lib.ListN.{replicate}
+use Rattle.wire.specs.Frame.{frameOf}
+use Rattle.wire.specs.declared.Frame.the-variants.{Whole, Broken}
+use Rattle.candidates.specs.Selection.{usual, selected}
+use Rattle.schedule.specs.Instants.{halfOf}
+
+-- the address /ip4/a.b.c.d/udp/port/quic-v1
+abbrev pub address4 : ℕ → ℕ → ℕ → ℕ → ℕ → List ℕ
+address4 a b c d port = 0x04 ∷ a ∷ b ∷ c ∷ d ∷ 0x91 ∷ 0x02 ∷ (port / 256) ∷ (port % 256) ∷ 0xcd ∷ 0x03 ∷ []
+
+-- the targets among some addresses, private targets off
+abbrev pub targets : List (List ℕ) → List (List ℕ)
+targets = selected usual false
+
+-- one IP at three ports, the last of which meets the limit of two
+abbrev pub threePorts : List (List ℕ)
+threePorts = address4 8 8 8 8 4001 ∷ address4 8 8 8 8 4002 ∷ address4 8 8 8 8 4003 ∷ []
+
+-- five addresses of one family, the last of which meets the limit of four
+abbrev pub five : List (List ℕ)
+five = address4 8 8 8 1 4001 ∷ address4 8 8 8 2 4001 ∷ address4 8 8 8 3 4001 ∷ address4 8 8 8 4 4001 ∷ address4 8 8 8 5 4001 ∷ []
+
+pub record WorkedExamples : Type 0 where
+  -- ranges
+  pub anycast : targets (address4 192 0 0 9 4001 ∷ []) ≡ address4 192 0 0 9 4001 ∷ []
+  pub protocol : targets (address4 192 0 0 8 4001 ∷ []) ≡ []
+  pub private : targets (address4 172 31 255 255 4001 ∷ []) ≡ []
+  pub behind : targets (address4 172 32 0 0 4001 ∷ []) ≡ address4 172 32 0 0 4001 ∷ []
+  -- ports
+  pub low : targets (address4 8 8 8 8 1023 ∷ []) ≡ []
+  pub lowest : targets (address4 8 8 8 8 1024 ∷ []) ≡ address4 8 8 8 8 1024 ∷ []
+  -- limits
+  pub third : targets threePorts ≡ address4 8 8 8 8 4001 ∷ address4 8 8 8 8 4002 ∷ []
+  pub fifth :
+      targets five
+      ≡ address4 8 8 8 1 4001 ∷ address4 8 8 8 2 4001 ∷ address4 8 8 8 3 4001 ∷ address4 8 8 8 4 4001 ∷ []
+  -- half of a round trip
+  pub half : halfOf 41 ≡ 21
+  -- the longest frame, and the shortest that is too long
+  pub longest : frameOf (0x80 ∷ 0x20 ∷ replicate 4096 0) ≡ Whole 2 4096
+  pub over : frameOf (0x81 ∷ 0x20 ∷ replicate 4097 0) ≡ Broken
