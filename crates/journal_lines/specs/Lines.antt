@@ -1,4 +1,4 @@
--- A journal's lines (RULES.md, sections 12.2 and 12.3): each line's keys in their order, and nothing behind the last.
+-- A journal's lines (RULES.md, sections 12.4 and 12.5): each line's keys in their order, and nothing behind the last.
 -- A line of another form is `Unknown`.
 use Prim.Native.Nat.{ℕ}
 use mathlib.Core.List.{List}

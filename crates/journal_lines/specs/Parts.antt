@@ -1,4 +1,4 @@
--- Parts of a journal's lines (RULES.md, section 12): keys and values in their order.
+-- Parts of a journal's lines (RULES.md, sections 12.4 and 12.5): keys and values in their order.
 use Prim.Native.Nat.{ℕ}
 use mathlib.Core.List.{List}
 use lib.Dec.{eqb}

@@ -1,4 +1,4 @@
--- The calls that hold numbers alone, as texts, and that each is read from its text (RULES.md, section 12.3).
+-- The calls that hold numbers alone, as texts, and that each is read from its text (RULES.md, section 12.5).
 use Prim.Native.Nat.{ℕ, _≤_}
 use mathlib.Core.Path.{_≡_}
 use mathlib.Core.List.{List, _++_}

@@ -1,4 +1,4 @@
--- What the journal prints (RULES.md, section 12.5): the text of each output, in the line n.
+-- What the journal prints (RULES.md, section 12.7): the text of each output, in the line n.
 use Prim.Native.Nat.{ℕ}
 use mathlib.Core.List.{List, [], _∷_, _++_}
 use Rattle.text.specs.Words.{ascii}

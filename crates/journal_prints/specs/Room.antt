@@ -1,4 +1,4 @@
--- How long an output is at most (RULES.md, section 12.5). Numbers are of 64 bits, a framed message has at most 156 bytes, and a target list
+-- How long an output is at most (RULES.md, section 12.7). Numbers are of 64 bits, a framed message has at most 156 bytes, and a target list
 -- at most 200: eight addresses of 23 bytes, each behind its length.
 use Prim.Native.Nat.{ℕ, _≤_}
 use mathlib.Core.Path.{_≡_}
