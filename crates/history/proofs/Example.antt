@@ -1,0 +1,31 @@
+-- The worked example, computed.
+-- Assumes nothing.
+use mathlib.Core.Path.{_≡_, refl}
+use Rattle.time.specs.Time.{plus}
+use Rattle.budget.specs.Budget.{armed, mayBegin, oneMore, begun, withExchange, ended, windowEnd, upgradeDue, dueAt}
+use Rattle.schedule.specs.Instants.{halfOf, startOf, upto, instants, countIf, countTo}
+use Rattle.schedule.specs.Schedule.{ahead, without, timesOf, dueOf, openedOf}
+use Rattle.schedule.specs.Schedule as schedule
+use Rattle.wire.specs.Frame.{frameFrom}
+use Rattle.wire.specs.Varint.{valueOf, spanOf, varintOf}
+use Rattle.wire.specs.Lists.{along, listed}
+use Rattle.message.specs.Fields.{fieldOf}
+use Rattle.message.specs.Message.{scan}
+use Rattle.initiator.specs.Gathering.{gathering}
+use Rattle.address.specs.Multiaddr.{bigEndian, hasForm, parsed}
+use Rattle.address.specs.Words.{globalUnicast4, mayBeTarget}
+use Rattle.candidates.specs.Entries.{count, only}
+use Rattle.candidates.specs.Selection.{selected, bounded, room}
+use Rattle.rows.specs.Rows.{padded, tableOf, such}
+use Rattle.ledger.specs.Ledger.{emptyLedger, refusesPunches}
+use Rattle.inbound.specs.Answers.{noTargets, silence, eventOf, resetOf, burstOf, sendingOf, answerOf, quietOf}
+use Rattle.inbound.specs.Brought.{broughtBy}
+use Rattle.inbound.specs.Circuit.{inPhase, exchangingOf, isLive, openRound, tickPunching, inUse, checkOf, announced, closing, inExchange, writeOf, firstInput, roundTrip, punchingOf, windowOf, openWindow, begunOf, upOf, tickOf}
+use Rattle.inbound.specs.Input.{ownOf, targetsFrom, dataInput, exchangeInput, inputOf}
+use Rattle.history.specs.Calls.{toEach, copies, stepOf}
+use Rattle.history.specs.Example.{buffer, calls, each, expected}
+use Rattle.history.specs.Example
+
+pub example : each Example.begun calls ≡ expected
+unfolding plus armed mayBegin oneMore begun withExchange ended windowEnd upgradeDue dueAt halfOf startOf upto instants countIf countTo ahead without timesOf dueOf openedOf schedule.windowOf frameFrom valueOf spanOf varintOf along listed fieldOf scan gathering bigEndian hasForm parsed globalUnicast4 mayBeTarget count only selected bounded room padded tableOf such emptyLedger refusesPunches noTargets silence eventOf resetOf burstOf sendingOf answerOf quietOf broughtBy inPhase exchangingOf isLive openRound tickPunching inUse checkOf announced closing inExchange writeOf firstInput roundTrip punchingOf windowOf openWindow begunOf upOf tickOf ownOf targetsFrom dataInput exchangeInput inputOf toEach copies stepOf buffer calls each
+example = refl

@@ -1,0 +1,11 @@
+pub mod Datagrams
+pub mod Relation
+pub mod Rounds
+pub mod Windows
+pub mod Tick
+pub mod Up
+pub mod Input
+pub mod Run
+pub mod Bound
+pub mod Refusals
+pub mod Example

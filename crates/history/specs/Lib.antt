@@ -1,0 +1,5 @@
+pub mod Calls
+pub mod Refusals
+pub mod Book
+pub mod Demand3
+pub mod Example

@@ -1,0 +1,28 @@
+// Demand 3: one circuit, from its beginning, after every list of its calls.
+ghost use mathlib.Core.Path.{_≡_};
+ghost use mathlib.Core.Bool.{true};
+ghost use mathlib.Core.List.{List};
+ghost use Prim.Native.Nat.{ℕ};
+ghost use Rattle.ids.specs.declared.PeerId.{PeerId};
+ghost use Rattle.ids.specs.declared.ConnectionId.{ConnectionId};
+ghost use Rattle.inbound.specs.declared.InboundCircuit.{InboundCircuit};
+ghost use Rattle.inbound.specs.declared.Settings.{Settings};
+ghost use Rattle.history.specs.Calls.{Call, stepOf};
+ghost use Rattle.history.specs.Refusals.{ChangesNothing};
+ghost use Rattle.history.specs.Demand3.{Demand3};
+ghost use Rattle.history.specs.Example.{begun, calls, each, expected};
+
+// The datagrams of all answers are those of the book's windows, and no more than the bound.
+pub fn demand_3()
+    ensures { λ _. ⌜ ((source relay : PeerId) (circuit : ConnectionId) (s : Settings) (at : ℕ) (calls : List Call) → Demand3 source relay circuit s at calls) ⌝ }
+{}
+
+// A refused call, on any circuit, leaves the circuit, the ledger and the reply buffer as they were, and sends nothing.
+pub fn refused_changes_nothing()
+    ensures { λ _. ⌜ ((c : InboundCircuit) (call : Call) → stepOf c call .refused ≡ true → ChangesNothing c call) ⌝ }
+{}
+
+// The datagrams of each answer of the worked example.
+pub fn worked_example()
+    ensures { λ _. ⌜ each begun calls ≡ expected ⌝ }
+{}

@@ -1,0 +1,4 @@
+pub mod Answers
+pub mod Brought
+pub mod Circuit
+pub mod Input
