@@ -1,0 +1,68 @@
+use mathlib.Core.Path.{sym, _∙_}
+use native.Mathlib.Omega.{arith}
+use lib.ListN.{length-take}
+use Rattle.journal.proofs.Stepping.{step-made, step-left}
+use borrow.Author.Needs.{needs}
+use Rattle.journal.proofs.take_step.Statement.{statement}
+use Rattle.journal.proofs.take_step.Tie as tie
+
+next-line-requires : tie.Need-next-line-requires
+next-line-requires c κs = search needs
+
+is-line-requires : tie.Need-is-line-requires
+is-line-requires c κs = search needs
+
+make-room-requires : tie.Need-make-room-requires
+make-room-requires c κs = search needs
+
+slice-reshare-prefix-answer-line : tie.Need-slice-reshare-prefix-answer-line
+slice-reshare-prefix-answer-line c = search needs
+
+slice-aggregate-answer-line : tie.Need-slice-aggregate-answer-line
+slice-aggregate-answer-line c = simp length-take (omega (arith, c .before .before .before .before .before .before .before .before .before .before .next-line .ensures .0))
+
+answer-line-requires : tie.Need-answer-line-requires
+answer-line-requires c κs = search needs
+
+same-length : tie.Need-same-length
+same-length c = search needs
+
+same-length-2 : tie.Need-same-length-2
+same-length-2 c = search needs
+
+same-length-3 : tie.Need-same-length-3
+same-length-3 c = search needs
+
+same-length-4 : tie.Need-same-length-4
+same-length-4 c = search needs
+
+returns : tie.Need-returns
+returns c = step-made _ _ _ _ _ _ (sym (c .before .before .before .before .before .before .before .before .before .before .before .before .is-line .ensures) ∙ c .before .before .before .before .before .before .before .before .before .before .before .if1 .taken) (c .before .before .before .before .before .before .before .before .before .make-room .ensures) (c .before .before .before .before .before .answer-line .ensures)
+
+same-length-5 : tie.Need-same-length-5
+same-length-5 c = search needs
+
+same-length-6 : tie.Need-same-length-6
+same-length-6 c = search needs
+
+returns-2 : tie.Need-returns-2
+returns-2 c = step-left _ _ _ _ _ _ (sym (c .before .is-line .ensures) ∙ c .if1 .left)
+
+pub take-step-spec : {M : Type 1} → statement M
+take-step-spec =
+    tie.close
+    (tie.spec
+    next-line-requires
+    is-line-requires
+    make-room-requires
+    slice-reshare-prefix-answer-line
+    slice-aggregate-answer-line
+    answer-line-requires
+    same-length
+    same-length-2
+    same-length-3
+    same-length-4
+    returns
+    same-length-5
+    same-length-6
+    returns-2)
