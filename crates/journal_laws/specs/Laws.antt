@@ -1,0 +1,18 @@
+-- What holds of every line behind the first (RULES.md, sections 12.6 and 12.7), whatever journal it meets.
+use Prim.Native.Nat.{ℕ}
+use mathlib.Core.Path.{_≡_}
+use mathlib.Core.Bool.{Bool}
+use mathlib.Core.List.{List}
+use Rattle.refusal.specs.declared.Refusal.{Refusal}
+use Rattle.journal_turns.specs.Turns.{oneMore, counted, lineTurn}
+use Rattle.journal_turns.specs.declared.Journal.{Journal}
+use Rattle.journal_turns.specs.declared.Said.the-variants.{Refused}
+
+-- a refused line is counted, and nothing else changes, no byte of the reply buffer either
+abbrev pub RefusedChangesNothing : Type 0
+RefusedChangesNothing =
+    (j : Journal) (reply line : List ℕ) (ended : Bool) (why : Refusal) → lineTurn j reply line ended .turn .said ≡ Refused why
+    → (lineTurn j reply line ended .turn .journal ≡ counted j) × (lineTurn j reply line ended .reply ≡ reply)
+
+abbrev pub EveryLineCounts : Type 0
+EveryLineCounts = (j : Journal) (reply line : List ℕ) (ended : Bool) → lineTurn j reply line ended .turn .journal .n ≡ oneMore (j .n)
