@@ -3,7 +3,7 @@ use denote.Ref.{now}
 use Prim.Native.Nat.{_+_}
 use native.Mathlib.Omega.{arith}
 use lib.ListN.{length-take}
-use borrow.Author.Tests.{le-leb, lt-leb, le-ltb, lt-ltb}
+use borrow.Author.Tests.{le-leb, lt-leb}
 use Rattle.text.proofs.Printing.{rest-of}
 use Rattle.ledger_lines.specs.Values.{ownerOf, circuitOf}
 use borrow.Author.Needs.{needs}
@@ -15,7 +15,7 @@ length-before-requires c κs = search needs
 
 returns : tie.Need-returns
 unfolding circuitOf
-returns c = simp (sym (c .before .length-before .ensures), le-leb _ _ (c .if1 .taken), le-ltb _ _ (c .if1 .taken))
+returns c = simp (sym (c .before .length-before .ensures), le-leb _ _ (c .if1 .taken))
 
 slice-aggregate-read-decimal : tie.Need-slice-aggregate-read-decimal
 slice-aggregate-read-decimal c = simp length-take (omega arith)
@@ -31,7 +31,7 @@ enum-told c = search needs
 
 returns-2 : tie.Need-returns-2
 unfolding circuitOf
-returns-2 c = simp (sym (c .before .before .before .before .before .length-before .ensures), lt-leb _ _ (c .before .before .before .before .if1 .left), lt-ltb _ _ (c .before .before .before .before .if1 .left), sym (c .before .before .read-decimal .ensures), c .enum-told .given .1)
+returns-2 c = simp (sym (c .before .before .before .before .before .length-before .ensures), lt-leb _ _ (c .before .before .before .before .if1 .left), sym (c .before .before .read-decimal .ensures), c .enum-told .given .1)
 
 add-read-owner : tie.Need-add-read-owner
 add-read-owner c = search needs
@@ -56,7 +56,7 @@ enum-told-2 c = search needs
 
 returns-3 : tie.Need-returns-3
 unfolding circuitOf
-returns-3 c = simp (sym (c .before .before .before .before .before .before .before .before .before .before .length-before .ensures), lt-leb _ _ (c .before .before .before .before .before .before .before .before .before .if1 .left), lt-ltb _ _ (c .before .before .before .before .before .before .before .before .before .if1 .left), sym (c .before .before .before .before .before .before .before .read-decimal .ensures), c .before .before .before .before .before .relay .given .1, sym (c .before .before .read-owner .ensures ∙ ap ownerOf (rest-of (now (c .before .before .before .before .before .before .before .before .before .before .before .before .args .value)) (c .before .before .before .before .before .before .before .before .before .before .length-before .result + 1))), c .enum-told2 .given .1)
+returns-3 c = simp (sym (c .before .before .before .before .before .before .before .before .before .before .length-before .ensures), lt-leb _ _ (c .before .before .before .before .before .before .before .before .before .if1 .left), sym (c .before .before .before .before .before .before .before .read-decimal .ensures), c .before .before .before .before .before .relay .given .1, sym (c .before .before .read-owner .ensures ∙ ap ownerOf (rest-of (now (c .before .before .before .before .before .before .before .before .before .before .before .before .args .value)) (c .before .before .before .before .before .before .before .before .before .before .length-before .result + 1))), c .enum-told2 .given .1)
 
 enum-told-3 : tie.Need-enum-told-3
 enum-told-3 c = search needs
@@ -69,15 +69,15 @@ enum-told-5 c = search needs
 
 returns-4 : tie.Need-returns-4
 unfolding circuitOf
-returns-4 c = simp (sym (c .before .before .before .before .before .before .before .before .before .before .before .before .before .length-before .ensures), lt-leb _ _ (c .before .before .before .before .before .before .before .before .before .before .before .before .if1 .left), lt-ltb _ _ (c .before .before .before .before .before .before .before .before .before .before .before .before .if1 .left), sym (c .before .before .before .before .before .before .before .before .before .before .read-decimal .ensures), c .before .before .before .before .before .before .before .before .relay .given .1, sym (c .before .before .before .before .before .read-owner .ensures ∙ ap ownerOf (rest-of (now (c .before .before .before .before .before .before .before .before .before .before .before .before .before .before .before .args .value)) (c .before .before .before .before .before .before .before .before .before .before .before .before .before .length-before .result + 1))), c .before .before .before .owner .given .1, c .enum-told3 .given .1)
+returns-4 c = simp (sym (c .before .before .before .before .before .before .before .before .before .before .before .before .before .length-before .ensures), lt-leb _ _ (c .before .before .before .before .before .before .before .before .before .before .before .before .if1 .left), sym (c .before .before .before .before .before .before .before .before .before .before .read-decimal .ensures), c .before .before .before .before .before .before .before .before .relay .given .1, sym (c .before .before .before .before .before .read-owner .ensures ∙ ap ownerOf (rest-of (now (c .before .before .before .before .before .before .before .before .before .before .before .before .before .before .before .args .value)) (c .before .before .before .before .before .before .before .before .before .before .before .before .before .length-before .result + 1))), c .before .before .before .owner .given .1, c .enum-told3 .given .1)
 
 returns-5 : tie.Need-returns-5
 unfolding circuitOf
-returns-5 c = simp (sym (c .before .before .before .before .before .before .before .before .before .before .before .before .before .length-before .ensures), lt-leb _ _ (c .before .before .before .before .before .before .before .before .before .before .before .before .if1 .left), lt-ltb _ _ (c .before .before .before .before .before .before .before .before .before .before .before .before .if1 .left), sym (c .before .before .before .before .before .before .before .before .before .before .read-decimal .ensures), c .before .before .before .before .before .before .before .before .relay .given .1, sym (c .before .before .before .before .before .read-owner .ensures ∙ ap ownerOf (rest-of (now (c .before .before .before .before .before .before .before .before .before .before .before .before .before .before .before .args .value)) (c .before .before .before .before .before .before .before .before .before .before .before .before .before .length-before .result + 1))), c .before .before .before .owner .given .1, c .enum-told4 .given .1)
+returns-5 c = simp (sym (c .before .before .before .before .before .before .before .before .before .before .before .before .before .length-before .ensures), lt-leb _ _ (c .before .before .before .before .before .before .before .before .before .before .before .before .if1 .left), sym (c .before .before .before .before .before .before .before .before .before .before .read-decimal .ensures), c .before .before .before .before .before .before .before .before .relay .given .1, sym (c .before .before .before .before .before .read-owner .ensures ∙ ap ownerOf (rest-of (now (c .before .before .before .before .before .before .before .before .before .before .before .before .before .before .before .args .value)) (c .before .before .before .before .before .before .before .before .before .before .before .before .before .length-before .result + 1))), c .before .before .before .owner .given .1, c .enum-told4 .given .1)
 
 returns-6 : tie.Need-returns-6
 unfolding circuitOf
-returns-6 c = simp (sym (c .before .before .before .before .before .before .before .before .before .before .before .before .before .length-before .ensures), lt-leb _ _ (c .before .before .before .before .before .before .before .before .before .before .before .before .if1 .left), lt-ltb _ _ (c .before .before .before .before .before .before .before .before .before .before .before .before .if1 .left), sym (c .before .before .before .before .before .before .before .before .before .before .read-decimal .ensures), c .before .before .before .before .before .before .before .before .relay .given .1, sym (c .before .before .before .before .before .read-owner .ensures ∙ ap ownerOf (rest-of (now (c .before .before .before .before .before .before .before .before .before .before .before .before .before .before .before .args .value)) (c .before .before .before .before .before .before .before .before .before .before .before .before .before .length-before .result + 1))), c .before .before .before .owner .given .1, c .enum-told5 .given .1)
+returns-6 c = simp (sym (c .before .before .before .before .before .before .before .before .before .before .before .before .before .length-before .ensures), lt-leb _ _ (c .before .before .before .before .before .before .before .before .before .before .before .before .if1 .left), sym (c .before .before .before .before .before .before .before .before .before .before .read-decimal .ensures), c .before .before .before .before .before .before .before .before .relay .given .1, sym (c .before .before .before .before .before .read-owner .ensures ∙ ap ownerOf (rest-of (now (c .before .before .before .before .before .before .before .before .before .before .before .before .before .before .before .args .value)) (c .before .before .before .before .before .before .before .before .before .before .before .before .before .length-before .result + 1))), c .before .before .before .owner .given .1, c .enum-told5 .given .1)
 
 pub read-circuit-spec : {M : Type 1} → statement M
 read-circuit-spec = tie.close (tie.spec length-before-requires returns slice-aggregate-read-decimal read-decimal-requires enum-known-relay enum-told returns-2 add-read-owner sub-read-owner part-read-owner-start part-read-owner-end read-owner-requires enum-known-owner enum-told-2 returns-3 enum-told-3 enum-told-4 enum-told-5 returns-4 returns-5 returns-6)

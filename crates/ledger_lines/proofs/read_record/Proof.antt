@@ -3,7 +3,7 @@ use denote.Ref.{now}
 use Prim.Native.Nat.{_+_}
 use native.Mathlib.Omega.{arith}
 use lib.ListN.{length-take}
-use borrow.Author.Tests.{le-leb, lt-leb, le-ltb, lt-ltb}
+use borrow.Author.Tests.{le-leb, lt-leb}
 use Rattle.text.proofs.Printing.{rest-of}
 use Rattle.text.specs.Decimal.{decimalOf}
 use Rattle.ledger_lines.specs.Values.{recordOf}
@@ -16,7 +16,7 @@ length-before-requires c κs = search needs
 
 returns : tie.Need-returns
 unfolding recordOf
-returns c = simp (sym (c .before .length-before .ensures), le-leb _ _ (c .if1 .taken), le-ltb _ _ (c .if1 .taken))
+returns c = simp (sym (c .before .length-before .ensures), le-leb _ _ (c .if1 .taken))
 
 slice-aggregate-read-decimal : tie.Need-slice-aggregate-read-decimal
 slice-aggregate-read-decimal c = simp length-take (omega arith)
@@ -32,7 +32,7 @@ enum-told c = search needs
 
 returns-2 : tie.Need-returns-2
 unfolding recordOf
-returns-2 c = simp (sym (c .before .before .before .before .before .length-before .ensures), lt-leb _ _ (c .before .before .before .before .if1 .left), lt-ltb _ _ (c .before .before .before .before .if1 .left), sym (c .before .before .read-decimal .ensures), c .enum-told .given .1)
+returns-2 c = simp (sym (c .before .before .before .before .before .length-before .ensures), lt-leb _ _ (c .before .before .before .before .if1 .left), sym (c .before .before .read-decimal .ensures), c .enum-told .given .1)
 
 add-read-decimal : tie.Need-add-read-decimal
 add-read-decimal c = search needs
@@ -57,11 +57,11 @@ enum-told-2 c = search needs
 
 returns-3 : tie.Need-returns-3
 unfolding recordOf
-returns-3 c = simp (sym (c .before .before .before .before .before .before .before .before .before .before .length-before .ensures), lt-leb _ _ (c .before .before .before .before .before .before .before .before .before .if1 .left), lt-ltb _ _ (c .before .before .before .before .before .before .before .before .before .if1 .left), sym (c .before .before .before .before .before .before .before .read-decimal .ensures), c .before .before .before .before .before .peer .given .1, sym (c .before .before .read-decimal2 .ensures ∙ ap decimalOf (rest-of (now (c .before .before .before .before .before .before .before .before .before .before .before .before .args .value)) (c .before .before .before .before .before .before .before .before .before .before .length-before .result + 1))), c .enum-told2 .given .1)
+returns-3 c = simp (sym (c .before .before .before .before .before .before .before .before .before .before .length-before .ensures), lt-leb _ _ (c .before .before .before .before .before .before .before .before .before .if1 .left), sym (c .before .before .before .before .before .before .before .read-decimal .ensures), c .before .before .before .before .before .peer .given .1, sym (c .before .before .read-decimal2 .ensures ∙ ap decimalOf (rest-of (now (c .before .before .before .before .before .before .before .before .before .before .before .before .args .value)) (c .before .before .before .before .before .before .before .before .before .before .length-before .result + 1))), c .enum-told2 .given .1)
 
 returns-4 : tie.Need-returns-4
 unfolding recordOf
-returns-4 c = simp (sym (c .before .before .before .before .before .before .before .before .before .before .before .length-before .ensures), lt-leb _ _ (c .before .before .before .before .before .before .before .before .before .before .if1 .left), lt-ltb _ _ (c .before .before .before .before .before .before .before .before .before .before .if1 .left), sym (c .before .before .before .before .before .before .before .before .read-decimal .ensures), c .before .before .before .before .before .before .peer .given .1, sym (c .before .before .before .read-decimal2 .ensures ∙ ap decimalOf (rest-of (now (c .before .before .before .before .before .before .before .before .before .before .before .before .before .args .value)) (c .before .before .before .before .before .before .before .before .before .before .before .length-before .result + 1))), c .before .connection .given .1)
+returns-4 c = simp (sym (c .before .before .before .before .before .before .before .before .before .before .before .length-before .ensures), lt-leb _ _ (c .before .before .before .before .before .before .before .before .before .before .if1 .left), sym (c .before .before .before .before .before .before .before .before .read-decimal .ensures), c .before .before .before .before .before .before .peer .given .1, sym (c .before .before .before .read-decimal2 .ensures ∙ ap decimalOf (rest-of (now (c .before .before .before .before .before .before .before .before .before .before .before .before .before .args .value)) (c .before .before .before .before .before .before .before .before .before .before .before .length-before .result + 1))), c .before .connection .given .1)
 
 pub read-record-spec : {M : Type 1} → statement M
 read-record-spec = tie.close (tie.spec length-before-requires returns slice-aggregate-read-decimal read-decimal-requires enum-known-peer enum-told returns-2 add-read-decimal sub-read-decimal part-read-decimal-start part-read-decimal-end read-decimal-requires-2 enum-known-connection enum-told-2 returns-3 returns-4)
