@@ -83,8 +83,6 @@ class Messages:
         return f"out={varint(call['value']).hex()}"
 
     def frame(self, call):
-        if call['count'] > len(call['in']):
-            return 'bad'
         stored = call['in'][:call['count']]
         message = judge(stored)
         if message is None:
@@ -195,7 +193,7 @@ class Schedule:
     def reply(self, call):
         start = capped(call['at'] + (call['rtt'] + 1) // 2)
         end = min(capped(start + call['punch']), call['deadline'])
-        times = int(call['rtt'] == 0)
+        times = int(call['rtt'] == 0 and start <= end)
         self.kept = Window([], start, end, times)
         return f"times={times} start={start} end={end} next={self.following(max(1, call['interval']))}"
 

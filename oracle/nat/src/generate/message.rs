@@ -307,6 +307,9 @@ fn named_bad(out: &mut Vec<String>) {
         "do=encode value=00",
         "do=varint in=--",
         "do=frame in=00 count=1\r",
+        "do=frame in=00 count=2",
+        "do=frame in=64 count=2",
+        "do=frame in=- count=18446744073709551615",
     ] {
         out.push(line.to_string());
     }

@@ -55,6 +55,10 @@ do=tick at=1000000000000 interval=3
 do=tick at=1000000000002 interval=3
 do=tick at=1000000000003 interval=3
 do=tick at=18446744073709551614 interval=3
+do=reply at=217 rtt=0 deadline=216 punch=100 interval=10
+do=tick at=300 interval=10
+do=reply at=217 rtt=0 deadline=217 punch=100 interval=10
+do=tick at=300 interval=10
 do=tick at=7
 do=tick at=07 interval=1
 do=reply at=1 rtt=1 deadline=1 punch=1";

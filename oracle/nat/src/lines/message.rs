@@ -26,7 +26,7 @@ pub(super) fn answer(line: &[u8]) -> Option<String> {
         b"frame" => {
             let input = words.bytes("in")?;
             let count = usize::try_from(words.number("count")?).ok()?;
-            words.end(frame(input.get(..count)?))
+            words.end(frame(&input[..count.min(input.len())]))
         }
         b"list" => {
             let input = words.bytes("in")?;

@@ -64,7 +64,7 @@ impl Schedule {
             config.upgrade_timeout_ms = u64::MAX;
             config.punch_deadline_ms = end - start;
         }
-        let mut times = u64::from(round_trip == 0);
+        let mut times = u64::from(round_trip == 0 && start <= end);
         self.instants = Some(Instants::new(start, end, interval, times));
         self.circuit = None;
         if at < config.upgrade_timeout_ms && round_trip <= at {

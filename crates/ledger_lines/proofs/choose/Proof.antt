@@ -1,0 +1,11 @@
+use Rattle.ledger_lines.proofs.choose.Statement.{statement}
+use Rattle.ledger_lines.proofs.choose.Tie as tie
+
+returns : tie.Need-returns
+returns c = simp (c .if1 .taken)
+
+returns-2 : tie.Need-returns-2
+returns-2 c = simp (c .if1 .left)
+
+pub choose-spec : {M : Type 1} → statement M
+choose-spec = tie.close (tie.spec returns returns-2)
