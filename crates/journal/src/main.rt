@@ -111,7 +111,8 @@ pub struct Ending {
     pub written: bool,
 }
 
-// Goes through the lines behind the first. A proved loop has to end, so it counts its turns down from a number that no run uses up.
+// Goes through the lines behind the first. One step stands before the loop, so that the loop carries what a step leaves and no more. A
+// proved loop has to end, so it counts its turns down from a number that no run uses up.
 fn run(
     block: &mut [u8],
     line: &mut [u8],
@@ -122,29 +123,26 @@ fn run(
 ) -> Ending
     ensures { λ r. ⌜ r .waiting ≤ length (now (out .entry)) ⌝ }
 {
-    let mut from = first.from;
-    let mut until = first.until;
-    let mut more = true;
-    let mut failed = false;
-    let mut written = true;
-    let mut waiting: usize = 0;
-    let mut journal = opened;
+    let mut s = take_step(block, line, reply, out, first.from, first.until, opened, 0);
     let mut turns = u64::MAX;
-    while 0 < turns && more && written {
-        let s = take_step(block, line, reply, out, from, until, journal, waiting);
-        from = s.reading.from;
-        until = s.reading.until;
-        more = s.reading.more;
-        failed = s.reading.failed;
-        written = s.written;
-        waiting = s.waiting;
-        journal = s.journal;
+    while 0 < turns && s.reading.more && s.written {
+        let journal = s.journal;
+        s = take_step(
+            block,
+            line,
+            reply,
+            out,
+            s.reading.from,
+            s.reading.until,
+            journal,
+            s.waiting,
+        );
         turns -= 1;
     }
     Ending {
-        failed: failed,
-        waiting: waiting,
-        written: written,
+        failed: s.reading.failed,
+        waiting: s.waiting,
+        written: s.written,
     }
 }
 
