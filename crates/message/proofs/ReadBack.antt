@@ -1,16 +1,14 @@
 -- Reading what was written gives the type and the addresses back, for every type and every list that is accepted.
 -- Assumes nothing.
-use mathlib.Core.Path.{_≡_, refl, sym, ap, _∙_}
+use mathlib.Core.Path.{_≡_, refl, ap, _∙_}
 use mathlib.Core.List.{List, [], _∷_, _++_, append-assoc}
-use mathlib.Core.Bool.{Bool, true, false}
+use mathlib.Core.Bool.{true, false}
 use Prim.Native.Nat.{ℕ, zero, suc, _+_, _-_, _^_, _<_, _≤_}
 use native.Mathlib.Omega.{arith}
-use lib.Dec.{ltb, eqb·suc-zero}
+use lib.Dec.{eqb·suc-zero}
 use lib.ListN.{length, getD, take, drop, length-append}
 use lib.Seq.{drop-at, take-append-seam}
-use borrow.Author.Tests.{le-leb, le-ltb, ne-eqb, ltb-false}
-use Rattle.prelude.specs.Choice.{pick}
-use Rattle.refusal.specs.declared.Refusal.the-variants.{BrokenList, MessageTooLong, OutputTooShort}
+use borrow.Author.Tests.{le-leb, le-ltb, ne-eqb}
 use Rattle.wire.specs.Varint.{valueOf, spanOf, varintOf, encoded}
 use Rattle.wire.specs.Frame.{maxMessageSize}
 use Rattle.wire.specs.Lists.{entries, broken, listed}
@@ -23,6 +21,7 @@ use Rattle.message.specs.declared.Kind.{Kind}
 use Rattle.message.specs.declared.Kind.the-variants.{Connect, Sync}
 use Rattle.message.proofs.Scan.{scan-nil}
 use Rattle.message.proofs.FieldList.{field-long}
+use Rattle.message.proofs.Answers.{sent-is}
 use Rattle.message.specs.declared.Field.the-variants as f
 use Rattle.message.specs.declared.Decoded.the-variants as d
 use Rattle.message.specs.declared.Encoded.the-variants as w
@@ -101,18 +100,10 @@ kind-back Sync = refl
 
 -- what is accepted: the list is not broken, the message m is short enough, and the first n bytes of the buffer are b
 accepted-is : (s m b o : List ℕ) (n : ℕ) → sent s m b (length o) ≡ w.Message n
-    → (broken s ≡ false) × (length m ≤ maxMessageSize) × (n ≡ length b) × (take n (sentInto s m b o) ≡ b)
-accepted-is s m b o n e = go (broken s) refl (ltb maxMessageSize (length m)) refl (ltb (length o) (length b)) e
-  where
-    go : (p : Bool) → broken s ≡ p → (q : Bool) → ltb maxMessageSize (length m) ≡ q → (r : Bool)
-        → pick p (w.Refused BrokenList) (pick q (w.Refused MessageTooLong) (pick r (w.Refused OutputTooShort) (w.Message (length b)))) ≡ w.Message n
-        → (broken s ≡ false) × (length m ≤ maxMessageSize) × (n ≡ length b) × (take n (pick p o (pick q o (pick r o (over b o)))) ≡ b)
-    go true i q j r e = let c : _≡_ {A = ℕ} 0 1 = cc in absurd (omega arith)
-    go false i true j r e = let c : _≡_ {A = ℕ} 0 1 = cc in absurd (omega arith)
-    go false i false j true e = let c : _≡_ {A = ℕ} 0 1 = cc in absurd (omega arith)
-    go false i false j false e =
-        let c : length b ≡ n = cc in
-        (i, ltb-false maxMessageSize (length m) j, sym c, rw (← c) (take-append-seam b (drop (length b) o)))
+    → (broken s ≡ false) × (length m ≤ maxMessageSize) × (take n (sentInto s m b o) ≡ b)
+accepted-is s m b o n e =
+    let q = sent-is s m b (length o) n e in
+    (q .0, q .1, rw (q .0, le-ltb maxMessageSize (length m) (q .1), le-ltb (length o) (length b) (q .2), q .3) (take-append-seam b (drop (length b) o)))
 
 -- a message that says k and xs is read so, where there is room
 reads : (m o : List ℕ) (k : Kind) (xs : List (List ℕ)) → length m ≤ maxMessageSize → contentOf m ≡ says (typeNumber k) xs → length (listed xs) ≤ length o
@@ -131,4 +122,4 @@ reads-back k s o back n f e h =
     let z : listed (entries s) ≡ s = written-back s f (q .0) in
     let l : length (listed (entries s)) ≤ length back = rw z h in
     let t = reads m back k (entries s) (q .1) (read-back k (entries s) (q .1)) l in
-    rw (q .3) (t .0 ∙ rw z, t .1 ∙ rw z)
+    rw (q .2) (t .0 ∙ rw z, t .1 ∙ rw z)

@@ -290,6 +290,26 @@ fn fields_size(list: &[u8]) -> usize
     }
 }
 
+// How long the message is, or why it is not written.
+fn message_size(kind: Kind, list: &[u8]) -> Encoded
+    ensures { λ r. ⌜ r ≡ encodeOf kind (now (list .entry)) maxMessageSize ⌝ }
+{
+    if wire::is_broken(list) {
+        return Encoded::Refused(Refusal::BrokenList);
+    }
+    let rest = fields_size(list);
+    // Tested first, so that the sum below fits.
+    if MAX_MESSAGE_SIZE < rest {
+        return Encoded::Refused(Refusal::MessageTooLong);
+    }
+    let number = type_number(kind);
+    let size = 1 + wire::varint_len(number) + rest;
+    if MAX_MESSAGE_SIZE < size {
+        return Encoded::Refused(Refusal::MessageTooLong);
+    }
+    Encoded::Message(size)
+}
+
 // An address as a field; what would stand past the end is left out.
 fn put_field(address: &[u8], out: &mut [u8], at: usize)
     ensures { λ _. ⌜ now (out .exit) ≡ sets (now (out .entry)) at (addressField (now (address .entry))) ⌝ }
@@ -342,23 +362,17 @@ pub fn encode(kind: Kind, list: &[u8], out: &mut [u8]) -> Encoded
     ensures answer { λ r. ⌜ r ≡ encodeOf kind (now (list .entry)) (length (now (out .entry))) ⌝ }
     ensures stored { λ r. ⌜ now (out .exit) ≡ encodeInto kind (now (list .entry)) (now (out .entry)) ⌝ }
 {
-    if wire::is_broken(list) {
-        return Encoded::Refused(Refusal::BrokenList);
+    match message_size(kind, list) {
+        Encoded::Refused(why) => Encoded::Refused(why),
+        Encoded::Message(size) => {
+            if out.len() < size {
+                return Encoded::Refused(Refusal::OutputTooShort);
+            }
+            let number = type_number(kind);
+            put_message(number, list, out, 0);
+            Encoded::Message(size)
+        }
     }
-    let rest = fields_size(list);
-    if MAX_MESSAGE_SIZE < rest {
-        return Encoded::Refused(Refusal::MessageTooLong);
-    }
-    let number = type_number(kind);
-    let size = 1 + wire::varint_len(number) + rest;
-    if MAX_MESSAGE_SIZE < size {
-        return Encoded::Refused(Refusal::MessageTooLong);
-    }
-    if out.len() < size {
-        return Encoded::Refused(Refusal::OutputTooShort);
-    }
-    put_message(number, list, out, 0);
-    Encoded::Message(size)
 }
 
 // Writes the message behind its length, as it goes out on a stream.
@@ -366,25 +380,19 @@ pub fn encode_frame(kind: Kind, list: &[u8], out: &mut [u8]) -> Encoded
     ensures answer { λ r. ⌜ r ≡ frameEncodeOf kind (now (list .entry)) (length (now (out .entry))) ⌝ }
     ensures stored { λ r. ⌜ now (out .exit) ≡ frameEncodeInto kind (now (list .entry)) (now (out .entry)) ⌝ }
 {
-    if wire::is_broken(list) {
-        return Encoded::Refused(Refusal::BrokenList);
+    match message_size(kind, list) {
+        Encoded::Refused(why) => Encoded::Refused(why),
+        Encoded::Message(size) => {
+            let head = wire::varint_len(size as u64);
+            if out.len() < head + size {
+                return Encoded::Refused(Refusal::OutputTooShort);
+            }
+            wire::put_varint(size as u64, out, 0);
+            let number = type_number(kind);
+            put_message(number, list, out, head);
+            Encoded::Message(head + size)
+        }
     }
-    let rest = fields_size(list);
-    if MAX_MESSAGE_SIZE < rest {
-        return Encoded::Refused(Refusal::MessageTooLong);
-    }
-    let number = type_number(kind);
-    let size = 1 + wire::varint_len(number) + rest;
-    if MAX_MESSAGE_SIZE < size {
-        return Encoded::Refused(Refusal::MessageTooLong);
-    }
-    let head = wire::varint_len(size as u64);
-    if out.len() < head + size {
-        return Encoded::Refused(Refusal::OutputTooShort);
-    }
-    wire::put_varint(size as u64, out, 0);
-    put_message(number, list, out, head);
-    Encoded::Message(head + size)
 }
 
 // ---- Theorems
