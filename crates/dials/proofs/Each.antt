@@ -1,15 +1,14 @@
 -- Steps along rows that each have a value beside them, and along the live connections. Assumes nothing.
 use Prim.Native.Nat.{ℕ, zero, suc, _≤_, _<_, _+_}
-use mathlib.Core.Path.{_≡_, refl, ap, sym, _∙_, subst}
+use mathlib.Core.Path.{_≡_, refl, ap, sym, _∙_}
 use mathlib.Core.Bool.{true, false}
 use mathlib.Core.List.{List, [], _∷_, _++_, append-assoc, append-nil, map}
 use native.Mathlib.Omega.{arith}
 use native.Mathlib.Numerals.{add-one}
 use native.Mathlib.Nat.{not-suc-le-zero, le-of-suc-le-suc}
-use lib.ListN.{set, length, getD, take, drop, length-take, drop-of-length-le}
+use lib.ListN.{length, getD, take, drop, length-take, drop-of-length-le}
 use lib.Seq.{take-suc, getD-take, drop-cons}
 use lib.Dec.{eqb}
-use Rattle.rows.proofs.Fill.{Filled, fill-more}
 use Rattle.ids.specs.declared.PeerId.{PeerId}
 use Rattle.dials.specs.declared.FirstLive.the-variants.{None as NoLive, At as LiveAt}
 use Rattle.dials.specs.Dials.{each, pairs, firstOf}
@@ -41,7 +40,7 @@ module _ {A B : Type 0} where
   each-append f (x ∷ a) b = ap (λ (l : List B). f x ++ l) (each-append f a b) ∙ sym (append-assoc (f x) (each f a) (each f b))
 
 module _ {A B C : Type 0} (f : A × B → List C) (xs : List A) (k i : ℕ) (ys : List B) (d : A) (e : B) (l : i < length (take k xs)) (h : length (take k xs) ≤ length ys) where
-  each-more : each f (take (i + 1) (pairs (take k xs) ys)) ≡ each f (take i (pairs (take k xs) ys)) ++ f (getD xs i d, getD ys i e)
+  pub each-more : each f (take (i + 1) (pairs (take k xs) ys)) ≡ each f (take i (pairs (take k xs) ys)) ++ f (getD xs i d, getD ys i e)
   unfolding each
   each-more =
       let b : i < k = omega (arith, length-take k xs) in
@@ -49,13 +48,6 @@ module _ {A B C : Type 0} (f : A × B → List C) (xs : List A) (k i : ℕ) (ys 
       let g : getD (pairs (take k xs) ys) i (d, e) ≡ (getD xs i d, getD ys i e) = pairs-at (take k xs) ys i d e l h ∙ ap (λ (x : A). (x, getD ys i e)) (getD-take k xs i d b) in
       let t : take (i + 1) (pairs (take k xs) ys) ≡ take i (pairs (take k xs) ys) ++ ((getD xs i d, getD ys i e) ∷ []) = simp (add-one, take-suc (pairs (take k xs) ys) i (d, e) q, g) in
       ap (each f) t ∙ each-append f (take i (pairs (take k xs) ys)) ((getD xs i d, getD ys i e) ∷ []) ∙ simp append-nil
-
-  module _ {z : C} {array : List C} {n : ℕ} (filled : Filled z array n (each f (take i (pairs (take k xs) ys)))) where
-    pub gives : (y : C) → f (getD xs i d, getD ys i e) ≡ y ∷ [] → n < 64 → Filled z (set array n y) (n + 1) (each f (take (i + 1) (pairs (take k xs) ys)))
-    gives y g b = subst (Filled z (set array n y) (n + 1)) (sym (each-more ∙ ap (λ (t : List C). each f (take i (pairs (take k xs) ys)) ++ t) g)) (fill-more filled y b)
-
-    pub gives-none : f (getD xs i d, getD ys i e) ≡ [] → Filled z array n (each f (take (i + 1) (pairs (take k xs) ys)))
-    gives-none g = subst (Filled z array n) (sym (each-more ∙ ap (λ (t : List C). each f (take i (pairs (take k xs) ys)) ++ t) g ∙ append-nil _)) filled
 
 -- ---- the first record of a peer
 module _ (ps cs : List ℕ) (peer : PeerId) (i : ℕ) where

@@ -1,3 +1,3 @@
 pub mod Each
 pub mod Noted
-pub mod Aborting
+pub mod Gathered

@@ -2,8 +2,8 @@
 ghost use mathlib.Core.Path.{_≡_};
 ghost use lib.ListN.{replicate};
 ghost use mathlib.Core.List.{[]};
-ghost use Rattle.rows.specs.Rows.{rowsOf};
-ghost use Rattle.dials.specs.Dials.{tokensOf, connectionsOf, noFirst, askedBy, askedOf, firstOf, firstsOf, isFirst, fateOf, fateAt, pairs, abortWith, abortOf};
+ghost use Rattle.rows.specs.Rows.{rowsOf, tableOf};
+ghost use Rattle.dials.specs.Dials.{tokensOf, connectionsOf, noFirst, askedBy, askedOf, firstOf, firstsOf, isFirst, fateOf, fateAt, each, pairs, leftOf, retiredOf, closedOf, abortWith, abortOf};
 use ids::ConnectId;
 use ids::ConnectionId;
 use ids::NatToken;
@@ -201,63 +201,110 @@ fn fate_at(row: Row, id: ConnectId, first: First) -> Fate
     }
 }
 
-// Drops the dials of the attempt, where the first live connection is known for each row.
-pub fn abort_with(dials: Table, id: ConnectId, firsts: Firsts) -> Dropped
-    ensures { λ r. ⌜ r ≡ abortWith id (pairs (rowsOf dials) (firsts .rows)) ⌝ }
+// The rows that stay.
+fn left_of(dials: Table, id: ConnectId, firsts: Firsts) -> Table
+    ensures { λ r. ⌜ r ≡ tableOf (each (leftOf id) (pairs (rowsOf dials) (firsts .rows))) ⌝ }
 {
     let n = rows::used(dials);
-    let left_none = rows::empty();
-    let retired_none = no_tokens();
-    let close_none = no_connections();
-    let mut left = left_none.rows;
-    let mut tokens = retired_none.tokens;
-    let mut connections = close_none.connections;
-    let mut a: usize = 0;
-    let mut b: usize = 0;
+    let none = rows::empty();
+    let mut left = none.rows;
     let mut m: usize = 0;
     let mut i: usize = 0;
     while i < n {
         let row = dials.rows[i];
-        let first = firsts.rows[i];
+        let fate = fate_at(row, id, firsts.rows[i]);
         i += 1;
-        let fate = fate_at(row, id, first);
         match fate {
             Fate::Other => {
                 left[m] = row;
                 m += 1;
             }
-            Fate::Stays(token) => {
+            Fate::Stays(_) => {
                 left[m] = row;
                 m += 1;
-                tokens[a] = token;
-                a += 1;
+            }
+            Fate::Goes(_) => {}
+            Fate::Closes(_) => {}
+        }
+    }
+    Table {
+        rows: left,
+        count: m as u64,
+    }
+}
+
+// The tokens of the attempt's dials.
+fn retired_of(dials: Table, id: ConnectId, firsts: Firsts) -> Tokens
+    ensures { λ r. ⌜ r ≡ tokensOf (each (retiredOf id) (pairs (rowsOf dials) (firsts .rows))) ⌝ }
+{
+    let n = rows::used(dials);
+    let none = no_tokens();
+    let mut tokens = none.tokens;
+    let mut m: usize = 0;
+    let mut i: usize = 0;
+    while i < n {
+        let fate = fate_at(dials.rows[i], id, firsts.rows[i]);
+        i += 1;
+        match fate {
+            Fate::Other => {}
+            Fate::Stays(token) => {
+                tokens[m] = token;
+                m += 1;
             }
             Fate::Goes(token) => {
-                tokens[a] = token;
-                a += 1;
+                tokens[m] = token;
+                m += 1;
             }
             Fate::Closes(token) => {
-                tokens[a] = token;
-                a += 1;
-                let conn = ConnectionId(row.key);
-                connections[b] = conn;
-                b += 1;
+                tokens[m] = token;
+                m += 1;
             }
         }
     }
+    Tokens {
+        tokens,
+        count: m as u64,
+    }
+}
+
+// The connections to close.
+fn closed_of(dials: Table, id: ConnectId, firsts: Firsts) -> Connections
+    ensures { λ r. ⌜ r ≡ connectionsOf (each (closedOf id) (pairs (rowsOf dials) (firsts .rows))) ⌝ }
+{
+    let n = rows::used(dials);
+    let none = no_connections();
+    let mut connections = none.connections;
+    let mut m: usize = 0;
+    let mut i: usize = 0;
+    while i < n {
+        let row = dials.rows[i];
+        let fate = fate_at(row, id, firsts.rows[i]);
+        i += 1;
+        match fate {
+            Fate::Other => {}
+            Fate::Stays(_) => {}
+            Fate::Goes(_) => {}
+            Fate::Closes(_) => {
+                let conn = ConnectionId(row.key);
+                connections[m] = conn;
+                m += 1;
+            }
+        }
+    }
+    Connections {
+        connections,
+        count: m as u64,
+    }
+}
+
+// Drops the dials of the attempt, where the first live connection is known for each row.
+pub fn abort_with(dials: Table, id: ConnectId, firsts: Firsts) -> Dropped
+    ensures { λ r. ⌜ r ≡ abortWith id (pairs (rowsOf dials) (firsts .rows)) ⌝ }
+{
     Dropped {
-        dials: Table {
-            rows: left,
-            count: m as u64,
-        },
-        retired: Tokens {
-            tokens,
-            count: a as u64,
-        },
-        close: Connections {
-            connections,
-            count: b as u64,
-        },
+        dials: left_of(dials, id, firsts),
+        retired: retired_of(dials, id, firsts),
+        close: closed_of(dials, id, firsts),
     }
 }
 
