@@ -2,7 +2,7 @@
 use Prim.Native.Nat.{ℕ}
 use mathlib.Core.Bool.{Bool, false}
 use mathlib.Core.List.{List, [], _∷_, _++_, map}
-use lib.ListN.{length, take}
+use lib.ListN.{length, take, replicate}
 use lib.Dec.{eqb}
 use Rattle.prelude.specs.Choice.{pick}
 use Rattle.ids.specs.declared.PeerId.{PeerId}
@@ -60,6 +60,10 @@ firstsOf target first dials = record { rows = map (firstFor target first) (dials
 
 abbrev pub noFirst : First
 noFirst = record { live = NoLive }
+
+-- nothing found for any row
+abbrev pub noFirsts : Firsts
+noFirsts = record { rows = replicate 64 noFirst }
 
 -- ---- what becomes of a dial
 unfoldable pub isFirst : FirstLive → ℕ → Bool

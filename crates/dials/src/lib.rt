@@ -1,9 +1,8 @@
 // Dropping the dials of a connect attempt (`abort_attempt_dials` of ledger.rs), over the table of dials.
 ghost use mathlib.Core.Path.{_≡_};
-ghost use lib.ListN.{replicate};
 ghost use mathlib.Core.List.{[]};
 ghost use Rattle.rows.specs.Rows.{rowsOf, tableOf};
-ghost use Rattle.dials.specs.Dials.{tokensOf, connectionsOf, noFirst, askedBy, askedOf, firstOf, firstsOf, isFirst, fateOf, fateAt, each, pairs, leftOf, retiredOf, closedOf, abortWith, abortOf};
+ghost use Rattle.dials.specs.Dials.{tokensOf, connectionsOf, noFirsts, askedBy, askedOf, firstOf, firstsOf, isFirst, fateOf, fateAt, each, pairs, leftOf, retiredOf, closedOf, abortWith, abortOf};
 use ids::ConnectId;
 use ids::ConnectionId;
 use ids::NatToken;
@@ -78,8 +77,9 @@ fn no_connections() -> Connections
     }
 }
 
-fn no_firsts() -> Firsts
-    ensures { λ r. ⌜ r .rows ≡ replicate 64 noFirst ⌝ }
+// Nothing found for any row.
+pub fn no_firsts() -> Firsts
+    ensures { λ r. ⌜ r ≡ noFirsts ⌝ }
 {
     let none = First {
         live: FirstLive::None,

@@ -2,7 +2,6 @@
 use Prim.Native.Nat.{ℕ}
 use mathlib.Core.Bool.{Bool}
 use mathlib.Core.List.{List, [], _∷_, map}
-use lib.ListN.{replicate}
 use lib.Dec.{eqb}
 use Rattle.prelude.specs.Choice.{pick}
 use Rattle.ids.specs.declared.PeerId.{PeerId}
@@ -45,9 +44,6 @@ liveOf Nothing = NoLive
 
 abbrev pub first : Found → First
 first x = record { live = liveOf x }
-
-abbrev pub firsts-none : Firsts
-firsts-none = record { rows = replicate 64 (first Nothing) }
 
 -- the first live connection of each peer asked for
 abbrev pub firstsOf : List Live → Asked → Firsts

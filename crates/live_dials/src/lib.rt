@@ -6,7 +6,7 @@ ghost use Prim.Native.Nat.{_<_};
 ghost use lib.ListN.{getD, set};
 ghost use Rattle.dials.specs.Dials.{firstOf as firstIn};
 ghost use Rattle.ledger.specs.Ledger.{abortedWith, abortedDials};
-ghost use Rattle.live_dials.specs.First.{isPeer, firstOf, no-peer, liveOf, first, firsts-none, firstsOf, peersOf, connectionsOf};
+ghost use Rattle.live_dials.specs.First.{isPeer, firstOf, no-peer, liveOf, first, firstsOf, peersOf, connectionsOf};
 ghost use Rattle.live_dials.specs.Asking.{askedRows, askedAll, firstsFor};
 use dials::First;
 use dials::FirstLive;
@@ -63,15 +63,6 @@ fn asked_at(a: Asked, k: usize) -> PeerId
     a.peers[k]
 }
 
-fn no_firsts() -> Firsts
-    ensures { λ r. ⌜ r ≡ firsts-none ⌝ }
-{
-    let f = First {
-        live: FirstLive::None,
-    };
-    Firsts { rows: [f; 64] }
-}
-
 fn live_of(x: Found) -> FirstLive
     ensures { λ r. ⌜ r ≡ liveOf x ⌝ }
 {
@@ -94,7 +85,7 @@ fn put_first(mut f: Firsts, k: usize, x: Found) -> Firsts
 fn first_lives(live: &[Live], asked: Asked) -> Firsts
     ensures { λ r. ⌜ r ≡ firstsOf (now (live .entry)) asked ⌝ }
 {
-    let mut f = no_firsts();
+    let mut f = dials::no_firsts();
     let mut k = 0;
     while k < 64 {
         let x = first_live(live, asked_at(asked, k));

@@ -1,5 +1,6 @@
 use mathlib.Core.List.{List}
 use Rattle.dials.specs.declared.First.{First}
+use Rattle.dials.specs.declared.Firsts.{Firsts}
 use Rattle.dials.specs.declared.FirstLive.{FirstLive}
 use Prim.Native.Nat.{ℕ, _≤_, _-_}
 use mathlib.Core.Path.{_≡_, _∙_, sym, refl, ap}
@@ -56,7 +57,7 @@ loop-again c =
     let w = c .before .before .before .before .loop in
     let first = c .before .before .before .before .before .before .no-firsts in
     let x64 : length (a .t1 .rows) ≡ 64 = simp length-map at (c .before .before .before .before .before .before .before .before .before .good .0 .1 .1 .0 .1 .0 .1) in
-    let y64 : length (first .result .rows) ≡ 64 = ap length (first .ensures) ∙ length-replicate 64 noFirst in
+    let y64 : length (first .result .rows) ≡ 64 = ap (λ (f : Firsts). length (f .rows)) (first .ensures) ∙ length-replicate 64 noFirst in
     let e : record { live = c .first-of .result } ≡ g (getD (a .t1 .rows) (w .k) free) = ap (λ (x : FirstLive). record { live = x }) (c .first-of .ensures ∙ ap (firstOf (a .peers .now) (a .connections .now)) (c .before .asked-of .ensures)) in
     (omega arith, ap (λ (x : First). set (w .rows) (w .k) x) e ∙ ap (λ (l : List First). set l (w .k) (g (getD (a .t1 .rows) (w .k) free))) (w .inv .1) ∙ noted-more g (w .k) (a .t1 .rows) (first .result .rows) free (omega arith) (omega arith))
 
@@ -68,7 +69,7 @@ returns c =
     let w = c .before .loop in
     let first = c .before .before .before .no-firsts in
     let x64 : length (a .t1 .rows) ≡ 64 = simp length-map at (c .before .before .before .before .before .before .good .0 .1 .1 .0 .1 .0 .1) in
-    let y64 : length (first .result .rows) ≡ length (a .t1 .rows) = ap length (first .ensures) ∙ length-replicate 64 noFirst ∙ sym x64 in
+    let y64 : length (first .result .rows) ≡ length (a .t1 .rows) = ap (λ (f : Firsts). length (f .rows)) (first .ensures) ∙ length-replicate 64 noFirst ∙ sym x64 in
     let k64 : w .k ≡ length (a .t1 .rows) = omega arith in
     ap (λ (l : List First). record { rows = l }) (w .inv .1 ∙ ap (λ (k : ℕ). noted g k (a .t1 .rows) (first .result .rows)) k64 ∙ all-noted g (a .t1 .rows) (first .result .rows) y64)
 

@@ -43,16 +43,16 @@ use denote.Triple.Table.{entered, cited}
 use denote.Triple.Walked.{says, Stays, stay-none-slice, stay-none, walkOf, goes-none-slice, goes-none, Walks, ends-at, walked, walk-meets}
 use denote.Triple.Clauses.{ensured, lasts}
 use denote.Exit.{yes}
-use Rattle.live_dials.specs.First.{firstOf, firstsOf, firsts-none, no-peer}
+use Rattle.dials.specs.Dials.{noFirst, noFirsts}
+use Rattle.live_dials.specs.First.{firstOf, firstsOf, no-peer}
 use Rattle.dials.proofs.Noted.{noted, noted-more as one-more, all-noted}
 use Rattle.dials.specs.declared.First.{First}
 use Rattle.live_dials.specs.declared.Live.{Live}
 use Rattle.ids.specs.declared.PeerId.{PeerId}
 use Rattle.live_dials.specs.declared.Found.{Found}
-use Rattle.live_dials.specs.declared.Found.the-variants.{Nothing}
 use Rattle.live_dials.specs.declared.Asked.{Asked}
 use Rattle.dials.specs.declared.Firsts.{Firsts}
-use Rattle.live_dials.proofs.no_firsts.Symbol.{name as #no-firsts}
+use Rattle.dials.proofs.no_firsts.Symbol.{name as #no-firsts}
 use Rattle.live_dials.proofs.asked_at.Symbol.{name as #asked-at}
 use Rattle.live_dials.proofs.first_live.Symbol.{name as #first-live}
 use Rattle.live_dials.proofs.put_first.Symbol.{name as #put-first}
@@ -69,9 +69,9 @@ use Rattle.live_dials.proofs.Asked as Asked·
 use Rattle.live_dials.proofs.Asked.Laws as Asked·L
 use Rattle.dials.proofs.Firsts as Firsts·
 use Rattle.dials.proofs.Firsts.Laws as Firsts·L
-use Rattle.live_dials.proofs.no_firsts as no-firsts
-use Rattle.live_dials.proofs.no_firsts.Symbol as no-firsts-def
-use Rattle.live_dials.proofs.no_firsts.Met as no-firsts-thm
+use Rattle.dials.proofs.no_firsts as no-firsts
+use Rattle.dials.proofs.no_firsts.Symbol as no-firsts-def
+use Rattle.dials.proofs.no_firsts.Met as no-firsts-thm
 use Rattle.live_dials.proofs.asked_at as asked-at
 use Rattle.live_dials.proofs.asked_at.Symbol as asked-at-def
 use Rattle.live_dials.proofs.asked_at.Met as asked-at-thm
@@ -113,7 +113,7 @@ abbrev stayed : Stays (this.ended .signature .params) (this.ended .kept)
 stayed = (stay-none-slice (0 ∷ []) tt (plain (λ _. Live·.the-row)) yes, (stay-none (λ _. Asked·.the-row) yes, tt))
 
 abbrev none-rows : List First
-none-rows = replicate 64 (S.first Nothing)
+none-rows = replicate 64 noFirst
 
 asked-64 : (a : Asked) → Is Asked·.the-row a (LL.val Asked·.the-type Asked·L.the-laws a ∷ []) → length (a .peers) ≡ 64
 asked-64 a is = sym (length-map (a .peers) _) ∙ LL.owed Asked·.the-type Asked·L.the-laws a _ is .0 .1 .0 .1
@@ -162,8 +162,8 @@ module _ {M : Type 1} (𝓤 : URA M) (H : Heap 𝓤) (A : Atoms 𝓤) (W : Given
   goes-none′ : ent 𝓤 (emp 𝓤) (NoFirsts 𝓤 H A mem run .pre to-none)
   goes-none′ = qed W [] ∵ nothing ! $ nothing ! $ join ! $ frame ! $ done !
 
-  did-none : (r : Firsts) → ent 𝓤 (ensured 𝓤 H A no-firsts.ended (no-firsts.clauses 𝓤 H A mem run) tt tt tt r) (fact 𝓤 (r ≡ firsts-none))
-  did-none r = exE 𝓤 _ (λ ws. snd∗ 𝓤 (sem 𝓤 H A (lasts no-firsts.ended tt tt ws)) (fact 𝓤 (r ≡ firsts-none)))
+  did-none : (r : Firsts) → ent 𝓤 (ensured 𝓤 H A no-firsts.ended (no-firsts.clauses 𝓤 H A mem run) tt tt tt r) (fact 𝓤 (r ≡ noFirsts))
+  did-none r = exE 𝓤 _ (λ ws. snd∗ 𝓤 (sem 𝓤 H A (lasts no-firsts.ended tt tt ws)) (fact 𝓤 (r ≡ noFirsts)))
 
   abbrev to-asked : ℕ → AskedAt 𝓤 H A mem run .Ghost
   to-asked k = ((tt, tt, tt, (a, (k, tt)), (LL.val Asked·.the-type Asked·L.the-laws a ∷ [], (vint w64 k ∷ [], tt))), tt)
@@ -222,11 +222,11 @@ module _ {M : Type 1} (𝓤 : URA M) (H : Heap 𝓤) (A : Atoms 𝓤) (W : Given
   next-rows : (i : Turn) (less : i .k < 64) (p : PeerId) (y : Found) (r : Firsts) → p ≡ getD (a .peers) (i .k) no-peer → y ≡ firstOf (s .now) p → r .rows ≡ set (i .f .rows) (i .k) (S.first y) → r .rows ≡ noted (found-for (s .now)) (i .k + 1) (a .peers) none-rows
   next-rows i less p y r ep ey er =
       er ∙ ap (λ (z : Found). set (i .f .rows) (i .k) (S.first z)) (ey ∙ ap (firstOf (s .now)) ep) ∙ ap (λ (rs : List First). set rs (i .k) (found-for (s .now) (getD (a .peers) (i .k) no-peer))) (i .rows-are)
-      ∙ one-more (found-for (s .now)) (i .k) (a .peers) none-rows no-peer (subst (λ (m : ℕ). i .k < m) (sym 64-peers) less) (subst (λ (m : ℕ). i .k < m) (sym (length-replicate 64 (S.first Nothing))) less)
+      ∙ one-more (found-for (s .now)) (i .k) (a .peers) none-rows no-peer (subst (λ (m : ℕ). i .k < m) (sym 64-peers) less) (subst (λ (m : ℕ). i .k < m) (sym (length-replicate 64 noFirst)) less)
 
   all-rows : (i : Turn) → 64 ≤ i .k → i .f ≡ firstsOf (s .now) a
   all-rows i over = ap {B = Firsts} (λ (rs : List First). record { rows = rs }) (i .rows-are ∙ ap (λ (j : ℕ). noted (found-for (s .now)) j (a .peers) none-rows) (le-antisymm (i .upto) over ∙ sym 64-peers)
-      ∙ all-noted (found-for (s .now)) (a .peers) none-rows (length-replicate 64 (S.first Nothing) ∙ sym 64-peers))
+      ∙ all-noted (found-for (s .now)) (a .peers) none-rows (length-replicate 64 noFirst ∙ sym 64-peers))
 
   module _ (𝓣 : Tables 𝓤 H) (known-no-firsts : Triple 𝓤 (𝓣 .C #no-firsts) (NoFirsts 𝓤 H A mem run)) (known-asked-at : Triple 𝓤 (𝓣 .C #asked-at) (AskedAt 𝓤 H A mem run)) (known-first-live : Triple 𝓤 (𝓣 .C #first-live) (FirstLive 𝓤 H A mem run)) (known-put-first : Triple 𝓤 (𝓣 .C #put-first) (PutFirst 𝓤 H A mem run)) (l0 l1 l2 l3 l4 l5 l6 l7 : ℕ) where
     abbrev C : Calls 𝓤 H
@@ -299,7 +299,7 @@ module _ {M : Type 1} (𝓤 : URA M) (H : Heap 𝓤) (A : Atoms 𝓤) (W : Given
       use0 W (raw (NoFirsts 𝓤 H A mem run .pre to-none)) goes-none′ $
       calls-at ! (fmOf 𝓤 H (W .laws) 𝓣) (NoFirsts 𝓤 H A mem run) known-no-firsts (to-none) (no-more !) (λ vr.
       use1 W (later (some (λ (r : Firsts). (‵ ftrue ⊛ ‵ (Firsts·.the-row .own r (vr ∷ []))) ⊛ raw (ensured 𝓤 H A no-firsts.ended (no-firsts.clauses 𝓤 H A mem run) tt tt tt r)))) (id⊢ 𝓤 _) $ await ! tt $ pick ! (λ r.
-      split ! $ move ! (1 ∷ []) $ use1 W (raw (fact 𝓤 (r ≡ firsts-none))) (did-none r) $ heard ! (r ≡ firsts-none) (λ r-says. split ! $ drop ! $
+      split ! $ move ! (1 ∷ []) $ use1 W (raw (fact 𝓤 (r ≡ noFirsts))) (did-none r) $ heard ! (r ≡ noFirsts) (λ r-says. split ! $ drop ! $
       peeks ! Firsts·.the-row (Is Firsts·.the-row) (shows 𝓤 H A Firsts·.the-row) r (vr ∷ []) (λ r-is. drop ! $
       land ! (from ! (stop !)) (init ! 10 refl (LL.lawful Firsts·.the-type Firsts·L.the-laws 𝓤 H A W .typed r _ r-is .0)) $ rewrite ! 10 (λ (u : Val). ‵ (fat fullShare Firsts·L.mir l3 0 u)) (ap only (LL.tells Firsts·.the-type Firsts·L.the-laws r (vr ∷ []) r-is)) refl $
       assigns ! (of-opd ! (lit ! tt)) (from ! (stop !)) (init ! 8 refl (tt, record { fits = lit< tt })) $
@@ -322,7 +322,7 @@ first-lives-spec 𝓤 H 𝓜 𝓖 𝓡 =
     entered 𝓤 H (tripleOf 𝓤 H (𝓖 .A) this.signature (this.spec 𝓤 H (𝓖 .A) (𝓜 .mem) (𝓡 .run)))
     (tables 𝓤 H 𝓜 𝓡 code.env .C) (tables 𝓤 H 𝓜 𝓡 code.env .Λ) #this code.function (code.unfolded 𝓤 H 𝓜 𝓡)
     (meets 𝓤 H (𝓖 .A) (givenOf 𝓤 H 𝓜 𝓖) (𝓜 .mem) (𝓡 .run) (tablesOf 𝓤 H 𝓜 (tables 𝓤 H 𝓜 𝓡 code.env))
-    (cited 𝓤 H (NoFirsts 𝓤 H (𝓖 .A) (𝓜 .mem) (𝓡 .run)) 𝓜 𝓡 code.env #no-firsts no-firsts-def.routine code.calls-live-dials·no-firsts (no-firsts-thm.met 𝓤 H 𝓜 𝓖 𝓡))
+    (cited 𝓤 H (NoFirsts 𝓤 H (𝓖 .A) (𝓜 .mem) (𝓡 .run)) 𝓜 𝓡 code.env #no-firsts no-firsts-def.routine code.calls-dials·no-firsts (no-firsts-thm.met 𝓤 H 𝓜 𝓖 𝓡))
     (cited 𝓤 H (AskedAt 𝓤 H (𝓖 .A) (𝓜 .mem) (𝓡 .run)) 𝓜 𝓡 code.env #asked-at asked-at-def.routine code.calls-live-dials·asked-at (asked-at-thm.met 𝓤 H 𝓜 𝓖 𝓡))
     (cited 𝓤 H (FirstLive 𝓤 H (𝓖 .A) (𝓜 .mem) (𝓡 .run)) 𝓜 𝓡 code.env #first-live first-live-def.routine code.calls-live-dials·first-live (first-live-thm.met 𝓤 H 𝓜 𝓖 𝓡))
     (cited 𝓤 H (PutFirst 𝓤 H (𝓖 .A) (𝓜 .mem) (𝓡 .run)) 𝓜 𝓡 code.env #put-first put-first-def.routine code.calls-live-dials·put-first (put-first-thm.met 𝓤 H 𝓜 𝓖 𝓡)))
