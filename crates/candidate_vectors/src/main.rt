@@ -1,7 +1,6 @@
 // Answers calls of `address` and `candidates` that stand on standard input, a line for a line. README.md has the lines.
 ghost use mathlib.Core.Path.{_≡_};
-ghost use mathlib.Core.Bool.{Bool};
-ghost use Prim.Native.Nat.{_≤_, min};
+ghost use Prim.Native.Nat.{_≤_};
 ghost use lib.ListN.{length};
 ghost use Rattle.text.specs.Printed.{printed, behind};
 ghost use Rattle.candidate_vectors.specs.Requests.{badRequest, eligibleRequest, selectRequest, ownRequest, requestOf};
@@ -159,18 +158,12 @@ fn put_eligible(private: bool, parsed: Parsed, out: &mut [u8]) -> usize
     }
 }
 
-fn least(a: usize, b: usize) -> usize
-    ensures { λ r. ⌜ r ≡ min a b ⌝ }
-{
-    if a < b { a } else { b }
-}
-
 // The list that stands in the first bytes of those lent.
 fn put_kept(bytes: &[u8], len: usize, out: &mut [u8]) -> usize
     ensures bytes { λ r. ⌜ now (out .exit) ≡ printed (now (out .entry)) 0 (keptText (now (bytes .entry)) len) ⌝ }
     ensures place { λ r. ⌜ r ≡ behind (now (out .entry)) 0 (keptText (now (bytes .entry)) len) ⌝ }
 {
-    let n = least(len, bytes.len());
+    let n = text::least(len, bytes.len());
     let p = fields::put_bytes(b"kept=", &bytes[..n], out, 0);
     text::put_text(b"\n", out, p)
 }

@@ -20,7 +20,7 @@ use Rattle.candidates.specs.Entries.{bit, sameFamily, sameIp, sameBytes,
 use Rattle.candidates.specs.Selection.{counted, roomFor, packed, answered}
 use Rattle.candidates.specs.OnePass.{tallied, suits, wantedFrom}
 use Rattle.candidates.specs.declared.Source.{Source}
-use Rattle.candidates.specs.declared.Source.the-variants.{Peer, Own, Any}
+use Rattle.candidates.specs.declared.Source.the-variants.{Peer, Own}
 use Rattle.candidates.specs.declared.Limits.{Limits}
 use Rattle.candidates.specs.declared.Chosen.{Chosen}
 use Rattle.candidates.specs.declared.Outcome.the-variants.{Kept, Refused}
@@ -76,9 +76,6 @@ module _ (source : Source) (xs : List (List ℕ)) (a : List ℕ) (ip : Ip) where
       negated : (r : Bool) → not r ≡ no r
       negated true = refl
       negated false = refl
-
-  pub suits-any : source ≡ Any → true ≡ suits source xs a ip
-  suits-any e = rw e
 
 module _ (l : Limits) (source : Source) (xs : List (List ℕ)) (a : List ℕ) {p : Parsed} (q : p ≡ parsed a) where
   pub wanted-other : p ≡ Other → false ≡ wantedFrom l source xs a

@@ -233,12 +233,14 @@ fn wanted(l: Limits, source: Source, kept: &[u8], a: &[u8]) -> bool
     }
 }
 
-fn nothing_chosen() -> Chosen
-    ensures { λ r. ⌜ r ≡ packed [] ⌝ }
-{
-    Chosen {
-        bytes: [0u8; CAPACITY],
-        len: 0,
+impl Chosen {
+    pub fn empty() -> Self
+        ensures { λ r. ⌜ r ≡ packed [] ⌝ }
+    {
+        Chosen {
+            bytes: [0u8; CAPACITY],
+            len: 0,
+        }
     }
 }
 
@@ -247,7 +249,7 @@ fn choose(l: Limits, list: &[u8], source: Source) -> Chosen
     requires { ⌜ (longest + 2) * l .total ≤ capacity ⌝ }
     ensures { λ r. ⌜ r ≡ packed (listed (foldl (keptFrom l source) [] (entries (now (list .entry))))) ⌝ }
 {
-    let none = nothing_chosen();
+    let none = Chosen::empty();
     let mut bytes = none.bytes;
     let mut len: usize = 0;
     let mut at: usize = 0;
@@ -271,7 +273,7 @@ fn chosen_from(list: &[u8], source: Source) -> Selection
     ensures { λ r. ⌜ r ≡ answered (now (list .entry)) (foldl (keptFrom usual source) [] (entries (now (list .entry)))) ⌝ }
 {
     if wire::is_broken(list) {
-        let chosen = nothing_chosen();
+        let chosen = Chosen::empty();
         return Selection {
             outcome: Outcome::Refused(Refusal::BrokenList),
             chosen,

@@ -3,7 +3,7 @@
 use mathlib.Core.Path.{_≡_, refl, sym, _∙_, ap}
 use mathlib.Core.Bool.{Bool, true, false}
 use mathlib.Core.List.{List, [], _∷_, _++_}
-use Prim.Native.Nat.{ℕ, suc, _+_, _-_, _≤_, _<_}
+use Prim.Native.Nat.{ℕ, suc, _+_, _-_, _≤_}
 use native.Mathlib.Omega.{arith}
 use borrow.Author.Tests.{lt-ltb, le-ltb, eqb-true}
 use lib.Dec.{ltb, eqb}
@@ -21,16 +21,13 @@ use Rattle.initiator.proofs.Frames.{connect-listed}
 use Rattle.candidates.specs.Entries.{bit, count, hasSize}
 use Rattle.candidates.specs.Laws.{AllPass}
 use Rattle.candidates.specs.Selection.{usual, own, packed, answered}
-use Rattle.candidates.specs.declared.Chosen.{Chosen}
 use Rattle.candidates.specs.declared.Selection.{Selection}
-use Rattle.candidates.specs.declared.Outcome.{Outcome}
 use Rattle.candidates.specs.declared.Outcome.the-variants.{Kept, Refused}
 use Rattle.candidates.proofs.Promises.{own-short, own-limits}
 use Rattle.refusal.specs.declared.Refusal.{Refusal}
 use Rattle.refusal.specs.declared.Refusal.the-variants as Refusal·
 use Rattle.inbound.specs.Answers.{noMessage}
 use Rattle.inbound.specs.Input.{ownOf, connectOf}
-use Rattle.inbound.specs.declared.Own.{Own}
 
 count-le : (p : List ℕ → Bool) (xs : List (List ℕ)) → count p xs ≤ length xs
 unfolding count

@@ -7,17 +7,16 @@ use Prim.Native.Nat.{ℕ, _+_, _≤_, _<_}
 use native.Mathlib.Omega.{arith}
 use borrow.Author.Tests.{le-ltb, ltb-false}
 use lib.Dec.{ltb, eqb}
-use lib.ListN.{length, take, drop, replicate, length-take, length-replicate, length-append, length-drop}
+use lib.ListN.{length, take, drop, length-take, length-replicate, length-append, length-drop}
 use lib.Seq.{take-append-seam}
 use Rattle.prelude.specs.Choice.{pick}
-use Rattle.wire.specs.Lists.{entries, broken, listed}
+use Rattle.wire.specs.Lists.{entries, listed}
 use Rattle.wire.specs.Frame.{maxMessageSize}
 use Rattle.wire.specs.declared.Frame.{Frame}
 use Rattle.wire.specs.declared.Frame.the-variants.{More, Whole, Broken}
 use Rattle.wire.proofs.Frames.{Within}
 use Rattle.wire.proofs.Listed.{All, read-back, unbroken}
-use Rattle.message.specs.Message.{Content, says, refused, contentOf, addresses, typeNumber, kindOf, withRoom, filled, decodeOf, decodeInto}
-use Rattle.message.specs.declared.Kind.{Kind}
+use Rattle.message.specs.Message.{Content, says, refused, contentOf, addresses, typeNumber, withRoom, filled, decodeInto}
 use Rattle.message.specs.declared.Kind.the-variants.{Connect, Sync}
 use Rattle.message.specs.declared.Decoded.the-variants as d
 use Rattle.message.proofs.Answers.{room-enough}
@@ -30,12 +29,11 @@ use Rattle.initiator.proofs.Gathers.{gathers-front}
 use Rattle.candidates.specs.declared.Chosen.{Chosen}
 use Rattle.candidates.specs.declared.Selection.{Selection}
 use Rattle.candidates.proofs.Answers.{answer-kept}
-use Rattle.candidates.specs.Selection.{usual, selected, packed, answered}
+use Rattle.candidates.specs.Selection.{usual, selected, packed}
 use Rattle.inbound.specs.Brought.{Brought, unfinished, failed, connect, fromContent, fromFrame, broughtBy}
 use Rattle.inbound.specs.Answers.{noTargets}
 use Rattle.inbound.specs.Input.{noList, chosenFrom, targetsFrom, peekedOf}
 use Rattle.inbound.specs.declared.Peeked.{Peeked}
-use Rattle.inbound.specs.declared.Peek.{Peek}
 use Rattle.inbound.specs.declared.Peek.the-variants as peek
 
 -- ---- the reply

@@ -2,19 +2,17 @@
 use Prim.Native.Nat.{ℕ, _+_, _-_, min}
 use mathlib.Core.Bool.{Bool, true, false}
 use lib.Dec.{ltb, leb, eqb}
-use Rattle.prelude.specs.Choice.{pick, both, either, no}
+use Rattle.prelude.specs.Choice.{pick, both, no}
 use Rattle.time.specs.Time.{last}
 use Rattle.ids.specs.declared.ConnectionId.{ConnectionId}
 use Rattle.ids.specs.declared.StreamId.{StreamId}
 use Rattle.ids.specs.declared.PeerId.{PeerId}
-use Rattle.refusal.specs.declared.Refusal.{Refusal}
 use Rattle.refusal.specs.declared.Refusal.the-variants as why
 use Rattle.budget.specs.declared.UpgradeBudget.{UpgradeBudget}
 use Rattle.budget.specs.declared.UpgradeStop.{UpgradeStop}
 use Rattle.budget.specs.declared.UpgradeStop.the-variants.{None, ExchangeTimeout, UpgradeTimeout}
 use Rattle.budget.specs.Budget.{armed, mayBegin, begun, ended, windowEnd, dueAt, nextDeadline}
 use Rattle.schedule.specs.declared.BlastSchedule.{BlastSchedule}
-use Rattle.schedule.specs.declared.NewlyDue.{NewlyDue}
 use Rattle.schedule.specs.Instants.{startOf}
 use Rattle.schedule.specs.Schedule.{dueOf, openedOf, nextOf}
 use Rattle.candidates.specs.declared.Chosen.{Chosen}

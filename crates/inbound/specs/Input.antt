@@ -1,7 +1,7 @@
 -- What the circuit does at an input (RULES.md, section 11.7): its answer, and the reply buffer's bytes.
 use Prim.Native.Nat.{ℕ}
 use mathlib.Core.Bool.{Bool, true, false}
-use mathlib.Core.List.{List, []}
+use mathlib.Core.List.{List}
 use lib.Dec.{ltb, eqb}
 use lib.ListN.{length, take, replicate}
 use Rattle.prelude.specs.Choice.{pick}

@@ -15,7 +15,6 @@ use schedule::BlastSchedule;
 use schedule::NewlyDue;
 ghost use mathlib.Core.Path.{_≡_};
 ghost use Rattle.inbound.specs.Answers.{noMessage, noTargets, silence, eventOf, resetOf, burstOf, sendingOf, answerOf, quietOf, refusedOf};
-ghost use lib.Dec.{eqb};
 ghost use lib.ListN.{length};
 ghost use Prim.Native.Nat.{_≤_};
 ghost use Rattle.inbound.specs.Brought.{broughtBy};
@@ -169,10 +168,7 @@ pub struct Said {
 fn no_targets() -> Chosen
     ensures { λ r. ⌜ r ≡ noTargets ⌝ }
 {
-    Chosen {
-        bytes: [0u8; candidates::CAPACITY],
-        len: 0,
-    }
+    Chosen::empty()
 }
 
 fn no_message() -> Framed
@@ -669,24 +665,15 @@ fn established(
             }
             return upgraded(c, ledger, conn, Effect::Nothing);
         }
-        Phase::Exchange {
-            conn: at,
-            stream,
-            count: _,
-            connect: _,
-        } => {
+        Phase::Exchange { conn: at, stream, .. } => {
             if relayed {
                 return quiet(c, ledger);
             }
-            return upgraded(
-                c,
-                ledger,
-                conn,
-                Effect::Reset {
-                    conn: at,
-                    stream: stream,
-                },
-            );
+            let reset = Effect::Reset {
+                conn: at,
+                stream: stream,
+            };
+            return upgraded(c, ledger, conn, reset);
         }
         Phase::Punching { .. } => {
             if relayed {

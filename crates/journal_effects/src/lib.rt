@@ -9,7 +9,6 @@ ghost use Prim.Native.Nat.{_*_, _≤_, min};
 ghost use lib.ListN.{length, take};
 ghost use Rattle.text.specs.Printed.{printed, behind};
 ghost use Rattle.journal_prints.specs.Outputs.{sendText, burstText};
-ghost use Rattle.text.specs.Decimal.{most};
 ghost use Rattle.initiator.specs.Sent.{frameCapacity};
 ghost use Rattle.candidates.specs.Selection.{capacity};
 ghost use Rattle.journal_prints.specs.Room.{room};
@@ -25,17 +24,6 @@ pub struct Effects {
     pub targets: Chosen,
 }
 
-// Numbers of 64 bits are in a number's range: the bound of an output's length rests on it.
-fn in_range(a: u64, b: u64, c: u64)
-    ensures { λ r. ⌜ (a ≤ most) × (b ≤ most) × (c ≤ most) ⌝ }
-{}
-
-fn least(a: usize, b: usize) -> usize
-    ensures { λ r. ⌜ r ≡ min a b ⌝ }
-{
-    if a < b { a } else { b }
-}
-
 // A circuit may say that its message is longer than the message's bytes.
 fn put_message(
     n: u64,
@@ -49,7 +37,7 @@ fn put_message(
     ensures bytes { λ r. ⌜ now (out .exit) ≡ printed (now (out .entry)) at (sendText n conn stream (take (min len frameCapacity) (now (bytes .entry)))) ⌝ }
     ensures place { λ r. ⌜ r ≡ behind (now (out .entry)) at (sendText n conn stream (take (min len frameCapacity) (now (bytes .entry)))) ⌝ }
 {
-    let size = least(len, initiator::FRAME_CAPACITY);
+    let size = text::least(len, initiator::FRAME_CAPACITY);
     if bytes.len() < size {
         return journal_prints::put_send(n, conn, stream, bytes, out, at);
     }
@@ -69,7 +57,7 @@ fn put_targets(
     ensures bytes { λ r. ⌜ now (out .exit) ≡ printed (now (out .entry)) at (burstText n times payload (take (min len capacity) (now (bytes .entry)))) ⌝ }
     ensures place { λ r. ⌜ r ≡ behind (now (out .entry)) at (burstText n times payload (take (min len capacity) (now (bytes .entry)))) ⌝ }
 {
-    let size = least(len, candidates::CAPACITY);
+    let size = text::least(len, candidates::CAPACITY);
     if bytes.len() < size {
         return journal_prints::put_burst(n, times, payload, bytes, out, at);
     }
@@ -91,35 +79,35 @@ fn put_effect(
     match effect {
         Effect::Nothing => at,
         Effect::Path { peer, relay, conn } => {
-            in_range(peer.0, relay.0, conn.0);
+            text::in_range(peer.0, relay.0, conn.0);
             journal_prints::put_path(n, peer, relay, conn, out, at)
         }
         Effect::Burst { times, payload } => {
-            in_range(n, times, payload);
+            text::in_range(n, times, payload);
             let bytes = targets.bytes;
             let len = targets.len;
             put_targets(n, times, payload, &bytes, len, out, at)
         }
         Effect::Upgrade { peer, old, new } => {
-            in_range(peer.0, old.0, new.0);
+            text::in_range(peer.0, old.0, new.0);
             journal_prints::put_upgrade(n, peer, old, new, out, at)
         }
         Effect::Close { conn } => {
-            in_range(n, n, conn.0);
+            text::in_range(n, n, conn.0);
             journal_prints::put_close(n, conn, out, at)
         }
         Effect::Send { conn, stream } => {
-            in_range(n, conn.0, stream.0);
+            text::in_range(n, conn.0, stream.0);
             let bytes = message.bytes;
             let len = message.len;
             put_message(n, conn, stream, &bytes, len, out, at)
         }
         Effect::Reset { conn, stream } => {
-            in_range(n, conn.0, stream.0);
+            text::in_range(n, conn.0, stream.0);
             journal_prints::put_reset(n, conn, stream, out, at)
         }
         Effect::Open { conn, stream } => {
-            in_range(n, conn.0, stream.0);
+            text::in_range(n, conn.0, stream.0);
             journal_prints::put_open(n, conn, stream, out, at)
         }
     }

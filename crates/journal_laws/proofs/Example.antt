@@ -39,5 +39,5 @@ use Rattle.journal_effects.specs.Effects as effects
 use Rattle.journal_turns.specs.Turns as turns
 
 pub example : journalText settings calls ≡ printed
-unfolding plus digitsFrom decimalOf digitsOf isHexadecimal bytesOf hexadecimal begins isWord lengthBefore maybeOf pairOf valueAt numberAt choiceAt maybeAt pairAt bytesAt number choice maybe pair bytes ends armed mayBegin oneMore begun withExchange ended windowEnd upgradeDue dueAt halfOf startOf upto instants countIf countTo ahead without timesOf dueOf openedOf schedule.windowOf frameFrom valueOf spanOf varintOf groups along listed fieldOf scan addressFields gathering syncFrame bigEndian hasForm parsed globalUnicast4 mayBeTarget count only selected bounded room once own padded tableOf such emptyLedger refusesPunches noMessage noTargets silence eventOf resetOf burstOf sendingOf answerOf quietOf broughtBy inPhase exchangingOf isLive openRound tickPunching inUse checkOf announced closing inExchange writeOf firstInput roundTrip punchingOf windowOf openWindow begunOf startedOf upOf tickOf ownOf targetsFrom dataInput exchangeInput inputOf line.timed line.heard line.answered line.connected line.settingsOf line.startOf line.upOf line.inputLine line.tickOf line.lineOf part.timesOf part.kindAt part.inputOf part.kinded part.inputAt part.answersAt part.connectionAt withCommas targetsText effects.linesText effects.noEffect effects.effectsText turns.newJournal turns.counted turns.withState turns.started turns.noEffects turns.silent turns.effectsOf turns.hostOf turns.startTurn turns.upTurn turns.inputTurn turns.tickTurn turns.turnOf turns.read turns.lineTurn firstOf opened lineText linesText opening journalText calls
+unfolding plus digitsFrom decimalOf digitsOf isHexadecimal bytesOf hexadecimal begins isWord lengthBefore maybeOf pairOf valueAt numberAt choiceAt maybeAt pairAt bytesAt number choice maybe pair bytes ends armed mayBegin oneMore begun withExchange ended windowEnd upgradeDue dueAt halfOf startOf upto instants countIf countTo ahead without timesOf dueOf openedOf schedule.windowOf frameFrom valueOf spanOf varintOf groups along listed fieldOf scan addressFields gathering syncFrame bigEndian hasForm parsed globalUnicast4 mayBeTarget count only selected bounded room once own padded tableOf such emptyLedger refusesPunches noMessage noTargets silence eventOf resetOf burstOf sendingOf answerOf quietOf broughtBy inPhase exchangingOf isLive openRound tickPunching inUse checkOf announced closing inExchange writeOf firstInput roundTrip punchingOf windowOf openWindow begunOf startedOf upOf tickOf ownOf targetsFrom dataInput exchangeInput inputOf line.timed line.settled line.heard line.answered line.connected line.settingsOf line.startOf line.upOf line.inputLine line.tickOf line.lineOf part.timesOf part.othersAt part.kindAt part.inputOf part.kinded part.inputAt part.answersAt part.connectionAt withCommas targetsText effects.linesText effects.noEffect effects.effectsText turns.newJournal turns.counted turns.withState turns.started turns.noEffects turns.silent turns.effectsOf turns.hostOf turns.startTurn turns.upTurn turns.inputTurn turns.tickTurn turns.turnOf turns.read turns.lineTurn firstOf opened lineText linesText opening journalText calls
 example = refl

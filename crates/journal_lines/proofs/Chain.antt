@@ -8,12 +8,13 @@ use Rattle.fields.specs.declared.Pair.{Pair}
 use Rattle.ids.specs.declared.PeerId.{PeerId}
 use Rattle.ids.specs.declared.ConnectionId.{ConnectionId}
 use Rattle.journal_lines.specs.Parts.{kinded}
-use Rattle.journal_lines.specs.Lines.{timed, heard, answered, connected}
+use Rattle.journal_lines.specs.Lines.{timed, settled, heard, answered, connected}
 use Rattle.journal_lines.specs.declared.Digits.{Digits}
 use Rattle.journal_lines.specs.declared.Kind.{Kind}
 use Rattle.journal_lines.specs.declared.KindField.{KindField}
 use Rattle.journal_lines.specs.declared.InputField.{InputField}
 use Rattle.journal_lines.specs.declared.Times.{Times}
+use Rattle.journal_lines.specs.declared.Others.{Others}
 use Rattle.journal_lines.specs.declared.Answers.{Answers}
 use Rattle.journal_lines.specs.declared.Connection.{Connection}
 use Rattle.journal_lines.specs.declared.First.{First}
@@ -22,6 +23,7 @@ use Rattle.journal_lines.specs.declared.Line.the-variants.{Unknown}
 use Rattle.journal_lines.specs.declared.KindField.the-variants as kindField
 use Rattle.journal_lines.specs.declared.InputField.the-variants as inputField
 use Rattle.journal_lines.specs.declared.Times.the-variants as times
+use Rattle.journal_lines.specs.declared.Others.the-variants as others
 use Rattle.journal_lines.specs.declared.Answers.the-variants as answers
 use Rattle.journal_lines.specs.declared.Connection.the-variants as connection
 use Rattle.journal_lines.specs.declared.First.the-variants as first
@@ -43,6 +45,15 @@ module _ (rest : ℕ → ℕ → ℕ → ℕ → ℕ → First) {f d : Times} (e
   pub times-bad : f ≡ times.Bad → first.Unknown ≡ timed d rest
   unfolding timed
   times-bad g = rw (← e, g)
+
+module _ (rest : ℕ → ℕ → Bool → Bool → First) {f d : Others} (e : f ≡ d) where
+  pub others-good : {a b : ℕ} {c w : Bool} {m : First} → f ≡ others.At a b c w → m ≡ rest a b c w → m ≡ settled d rest
+  unfolding settled
+  others-good g h = h ∙ rw (← e, g)
+
+  pub others-bad : f ≡ others.Bad → first.Unknown ≡ settled d rest
+  unfolding settled
+  others-bad g = rw (← e, g)
 
 module _ (rest : Kind → Digits → ℕ → Line) {f d : InputField} (e : f ≡ d) where
   pub input-good : {k : Kind} {v : Digits} {p : ℕ} {m : Line} → f ≡ inputField.At k v p → m ≡ rest k v p → m ≡ heard d rest

@@ -5,17 +5,18 @@ use mathlib.Core.List.{List}
 use mathlib.Core.Bool.{Bool}
 use Rattle.prelude.specs.Choice.{pick}
 use Rattle.text.specs.Words.{ascii, begins}
-use Rattle.fields.specs.Fields.{numberAt, choiceAt, maybeAt, pairAt, bytesAt}
-use Rattle.fields.specs.Line.{number, choice, maybe, pair, bytes, ends}
+use Rattle.fields.specs.Fields.{numberAt, maybeAt, pairAt, bytesAt}
+use Rattle.fields.specs.Line.{number, maybe, pair, bytes, ends}
 use Rattle.fields.specs.declared.Maybe.{Maybe}
 use Rattle.fields.specs.declared.Pair.{Pair}
 use Rattle.ids.specs.declared.PeerId.{PeerId}
 use Rattle.ids.specs.declared.ConnectionId.{ConnectionId}
-use Rattle.journal_lines.specs.Parts.{timesOf, inputAt, answersAt, connectionAt}
+use Rattle.journal_lines.specs.Parts.{timesOf, othersAt, inputAt, answersAt, connectionAt}
 use Rattle.journal_lines.specs.declared.Digits.{Digits}
 use Rattle.journal_lines.specs.declared.Kind.{Kind}
 use Rattle.journal_lines.specs.declared.InputField.{InputField}
 use Rattle.journal_lines.specs.declared.Times.{Times}
+use Rattle.journal_lines.specs.declared.Others.{Others}
 use Rattle.journal_lines.specs.declared.Answers.{Answers}
 use Rattle.journal_lines.specs.declared.Connection.{Connection}
 use Rattle.journal_lines.specs.declared.First.{First}
@@ -23,6 +24,7 @@ use Rattle.journal_lines.specs.declared.Line.{Line}
 use Rattle.journal_lines.specs.declared.Line.the-variants.{Start, Up, Input, Tick, Wrote, Down, Dial, Forget, Attribute, Unknown}
 use Rattle.journal_lines.specs.declared.InputField.the-variants as inputField
 use Rattle.journal_lines.specs.declared.Times.the-variants as times
+use Rattle.journal_lines.specs.declared.Others.the-variants as others
 use Rattle.journal_lines.specs.declared.Answers.the-variants as answers
 use Rattle.journal_lines.specs.declared.Connection.the-variants as connection
 use Rattle.journal_lines.specs.declared.First.the-variants as first
@@ -32,6 +34,10 @@ use Rattle.journal_lines.specs.declared.First.the-variants as first
 unfoldable pub timed : Times → (ℕ → ℕ → ℕ → ℕ → ℕ → First) → First
 timed (times.At handshake upgrade exchange punch next) rest = rest handshake upgrade exchange punch next
 timed times.Bad rest = first.Unknown
+
+unfoldable pub settled : Others → (ℕ → ℕ → Bool → Bool → First) → First
+settled (others.At interval payload private upgrades) rest = rest interval payload private upgrades
+settled others.Bad rest = first.Unknown
 
 unfoldable pub heard : InputField → (Kind → Digits → ℕ → Line) → Line
 heard (inputField.At k found next) rest = rest k found next
@@ -50,11 +56,8 @@ connected connection.Bad rest = Unknown
 unfoldable pub settingsOf : List ℕ → First
 settingsOf line =
     timed (timesOf line) λ handshake upgrade exchange punch p.
-    number first.Unknown (numberAt line (ascii " interval=") p) λ interval q.
-    number first.Unknown (numberAt line (ascii " payload=") q) λ payload r.
-    choice first.Unknown (choiceAt line (ascii " private=") (ascii "0") (ascii "1") r) λ private s.
-    choice first.Unknown (choiceAt line (ascii " upgrades=") (ascii "0") (ascii "1") s) λ upgrades t.
-    ends first.Unknown line t (first.Settings handshake upgrade exchange punch interval payload private upgrades)
+    settled (othersAt line p) λ interval payload private upgrades.
+    first.Settings handshake upgrade exchange punch interval payload private upgrades
 
 -- ---- the calls
 

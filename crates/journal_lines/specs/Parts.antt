@@ -11,6 +11,7 @@ use Rattle.journal_lines.specs.declared.Kind.{Kind}
 use Rattle.journal_lines.specs.declared.KindField.{KindField}
 use Rattle.journal_lines.specs.declared.InputField.{InputField}
 use Rattle.journal_lines.specs.declared.Times.{Times}
+use Rattle.journal_lines.specs.declared.Others.{Others}
 use Rattle.journal_lines.specs.declared.Answers.{Answers}
 use Rattle.journal_lines.specs.declared.Connection.{Connection}
 use Rattle.fields.specs.declared.Span.the-variants as span
@@ -18,6 +19,7 @@ use Rattle.journal_lines.specs.declared.Kind.the-variants as kind
 use Rattle.journal_lines.specs.declared.KindField.the-variants as kindField
 use Rattle.journal_lines.specs.declared.InputField.the-variants as inputField
 use Rattle.journal_lines.specs.declared.Times.the-variants as times
+use Rattle.journal_lines.specs.declared.Others.the-variants as others
 use Rattle.journal_lines.specs.declared.Answers.the-variants as answers
 use Rattle.journal_lines.specs.declared.Connection.the-variants as connection
 
@@ -29,6 +31,15 @@ timesOf line =
     number times.Bad (numberAt line (ascii " exchange=") q) λ exchange r.
     number times.Bad (numberAt line (ascii " punch=") r) λ punch s.
     times.At handshake upgrade exchange punch s
+
+-- interval= payload= private= upgrades=, and the line's end
+unfoldable pub othersAt : List ℕ → ℕ → Others
+othersAt line at =
+    number others.Bad (numberAt line (ascii " interval=") at) λ interval q.
+    number others.Bad (numberAt line (ascii " payload=") q) λ payload r.
+    choice others.Bad (choiceAt line (ascii " private=") (ascii "0") (ascii "1") r) λ private s.
+    choice others.Bad (choiceAt line (ascii " upgrades=") (ascii "0") (ascii "1") s) λ upgrades t.
+    ends others.Bad line t (others.At interval payload private upgrades)
 
 -- kind=
 abbrev pub kindIn : List ℕ → Span → KindField

@@ -13,7 +13,7 @@ use ids::NatToken;
 use ids::PeerId;
 use ids::StreamId;
 ghost use mathlib.Core.Path.{_≡_};
-ghost use Rattle.journal_lines.specs.Parts.{timesOf, kindAt, inputOf, inputAt, answersAt, connectionAt};
+ghost use Rattle.journal_lines.specs.Parts.{timesOf, othersAt, kindAt, inputOf, inputAt, answersAt, connectionAt};
 ghost use Rattle.journal_lines.specs.Lines.{settingsOf, startOf, upOf, inputLine, tickOf, wroteOf, downOf, dialOf, forgetOf, attributeOf, lineOf};
 ghost use Rattle.journal_lines.specs.Texts.{StartIsRead, WroteIsRead, DownIsRead, DialIsRead, ForgetIsRead};
 
@@ -161,6 +161,59 @@ fn read_times(line: &[u8]) -> Times
     }
 }
 
+// The settings behind the times; they end their line.
+pub enum Others {
+    At {
+        interval: u64,
+        payload: u64,
+        private: bool,
+        upgrades: bool,
+    },
+    Bad,
+}
+
+fn read_others(line: &[u8], at: usize) -> Others
+    ensures { λ r. ⌜ r ≡ othersAt (now (line .entry)) at ⌝ }
+{
+    let NumberField::At {
+        value: interval,
+        next: q,
+    } = fields::number_at(line, b" interval=", at)
+    else {
+        return Others::Bad;
+    };
+    let NumberField::At {
+        value: payload,
+        next: r,
+    } = fields::number_at(line, b" payload=", q)
+    else {
+        return Others::Bad;
+    };
+    let ChoiceField::At {
+        second: private,
+        next: s,
+    } = fields::choice_at(line, b" private=", b"0", b"1", r)
+    else {
+        return Others::Bad;
+    };
+    let ChoiceField::At {
+        second: upgrades,
+        next: t,
+    } = fields::choice_at(line, b" upgrades=", b"0", b"1", s)
+    else {
+        return Others::Bad;
+    };
+    if t != line.len() {
+        return Others::Bad;
+    }
+    Others::At {
+        interval: interval,
+        payload: payload,
+        private: private,
+        upgrades: upgrades,
+    }
+}
+
 pub fn read_settings(line: &[u8]) -> First
     ensures { λ r. ⌜ r ≡ settingsOf (now (line .entry)) ⌝ }
 {
@@ -174,37 +227,15 @@ pub fn read_settings(line: &[u8]) -> First
     else {
         return First::Unknown;
     };
-    let NumberField::At {
-        value: interval,
-        next: q,
-    } = fields::number_at(line, b" interval=", p)
+    let Others::At {
+        interval: interval,
+        payload: payload,
+        private: private,
+        upgrades: upgrades,
+    } = read_others(line, p)
     else {
         return First::Unknown;
     };
-    let NumberField::At {
-        value: payload,
-        next: r,
-    } = fields::number_at(line, b" payload=", q)
-    else {
-        return First::Unknown;
-    };
-    let ChoiceField::At {
-        second: private,
-        next: s,
-    } = fields::choice_at(line, b" private=", b"0", b"1", r)
-    else {
-        return First::Unknown;
-    };
-    let ChoiceField::At {
-        second: upgrades,
-        next: t,
-    } = fields::choice_at(line, b" upgrades=", b"0", b"1", s)
-    else {
-        return First::Unknown;
-    };
-    if t != line.len() {
-        return First::Unknown;
-    }
     First::Settings {
         handshake: handshake,
         upgrade: upgrade,

@@ -12,7 +12,6 @@ ghost use mathlib.Core.Path.{_≡_};
 ghost use mathlib.Core.List.{_++_};
 ghost use Prim.Native.Nat.{_+_, _*_, _≤_};
 ghost use lib.ListN.{length, take};
-ghost use Rattle.text.specs.Decimal.{most};
 ghost use Rattle.text.specs.Printed.{printed, behind};
 ghost use Rattle.journal_prints.specs.Outputs.{attributedText};
 ghost use Rattle.journal_prints.specs.Room.{room, OwnerFits};
@@ -112,16 +111,11 @@ pub fn open_journal(line: &[u8], ended: bool, out: &mut [u8], at: usize) -> Open
 
 // ---- the lines behind it
 
-// Numbers of 64 bits are in a number's range: the bound of an output's length rests on it.
-fn in_range(a: u64)
-    ensures { λ r. ⌜ a ≤ most ⌝ }
-{}
-
 fn owner_in_range(owner: Owner)
     ensures { λ r. ⌜ OwnerFits owner ⌝ }
 {
     match owner {
-        Owner::Attempt(id) => in_range(id.0),
+        Owner::Attempt(id) => text::in_range(id.0, id.0, id.0),
         Owner::Inbound => {}
         Owner::None => {}
     }

@@ -28,9 +28,8 @@ use path::DialPurpose;
 use path::FoundPath;
 use refusal::Refusal;
 ghost use mathlib.Core.Path.{_≡_};
-ghost use Prim.Native.Nat.{_<_, min};
+ghost use Prim.Native.Nat.{_<_};
 ghost use lib.ListN.{length, replicate};
-ghost use Rattle.inbound.specs.Answers.{noTargets};
 ghost use Rattle.inbound.specs.Input.{ownOf};
 ghost use Rattle.text.specs.Printed.{printed, behind};
 ghost use Rattle.journal_turns.specs.Turns.{longest, noEffects, newJournal, oneMore, counted, withState, started, silent, refused, effectsOf, answered, digitsBytes, liveOf, offerOf, hostOf, inputOf, startTurn, upTurn, inputTurn, tickTurn, wroteTurn, downTurn, dialTurn, forgetTurn, claimFor, naming, attributeTurn, needsStart, callTurn, turnOf, lineTurn};
@@ -135,10 +134,7 @@ fn no_effects() -> Effects
     ensures { λ r. ⌜ r ≡ noEffects ⌝ }
 {
     let message = Framed::empty();
-    let targets = Chosen {
-        bytes: [0u8; candidates::CAPACITY],
-        len: 0,
-    };
+    let targets = Chosen::empty();
     Effects {
         first: Effect::Nothing,
         second: Effect::Nothing,
@@ -214,19 +210,13 @@ fn settle(before: Journal, a: Answer, ledger: PathLedger) -> Turn
 
 // ---- what a line hands to its call
 
-fn least(a: usize, b: usize) -> usize
-    ensures { λ r. ⌜ r ≡ min a b ⌝ }
-{
-    if a < b { a } else { b }
-}
-
 // The bytes that hexadecimal digits of the line stand for, from the first of `out` on; the answer is how many there are.
 fn read_digits(line: &[u8], digits: Digits, out: &mut [u8]) -> usize
     ensures bytes { λ r. ⌜ now (out .exit) ≡ printed (now (out .entry)) 0 (digitsBytes (now (line .entry)) digits) ⌝ }
     ensures place { λ r. ⌜ r ≡ behind (now (out .entry)) 0 (digitsBytes (now (line .entry)) digits) ⌝ }
 {
     let start = digits.start;
-    let end = least(digits.end, line.len());
+    let end = text::least(digits.end, line.len());
     if end <= start {
         return 0;
     }
@@ -481,9 +471,7 @@ fn make_call(line: &[u8], j: Journal, reply: &mut [u8], call: Line) -> Turn
             source,
             relay,
             circuit,
-        } => {
-            return start_turn(j, at, source, relay, circuit);
-        }
+        } => return start_turn(j, at, source, relay, circuit),
         Line::Up {
             at,
             peer,
@@ -491,8 +479,8 @@ fn make_call(line: &[u8], j: Journal, reply: &mut [u8], call: Line) -> Turn
             circuit,
             live,
             offer,
-            pending: _,
             own,
+            ..
         } => {
             let host = host_at(line, at, live, offer, own);
             return up_turn(j, host, peer, conn, circuit);
@@ -519,38 +507,19 @@ fn make_call(line: &[u8], j: Journal, reply: &mut [u8], call: Line) -> Turn
             let host = host_at(line, at, live, offer, own);
             return tick_turn(j, host);
         }
-        Line::Wrote { at, conn, stream } => {
-            return wrote_turn(j, at, conn, stream);
-        }
-        Line::Down {
-            at: _,
-            peer: _,
-            conn,
-        } => {
-            return down_turn(j, conn);
-        }
+        Line::Wrote { at, conn, stream } => return wrote_turn(j, at, conn, stream),
+        Line::Down { conn, .. } => return down_turn(j, conn),
         Line::Dial {
-            at: _,
-            conn,
-            token,
-            id,
-        } => {
-            return dial_turn(j, conn, token, id);
-        }
-        Line::Forget { at: _, conn } => {
-            return forget_turn(j, conn);
-        }
+            conn, token, id, ..
+        } => return dial_turn(j, conn, token, id),
+        Line::Forget { conn, .. } => return forget_turn(j, conn),
         Line::Attribute {
             at,
             peer,
             conn,
             circuit,
-        } => {
-            return attribute_turn(j, at, peer, conn, circuit);
-        }
-        Line::Unknown => {
-            return refuse(j, Refusal::UnknownLine);
-        }
+        } => return attribute_turn(j, at, peer, conn, circuit),
+        Line::Unknown => return refuse(j, Refusal::UnknownLine),
     }
 }
 

@@ -1,5 +1,5 @@
 -- Answers printed from a buffer's first byte, and bytes read from hexadecimal into one. Assumes nothing.
-use mathlib.Core.Path.{_≡_, refl, sym, ap, subst, _∙_}
+use mathlib.Core.Path.{_≡_, refl, ap, subst}
 use mathlib.Core.List.{List, [], _∷_}
 use mathlib.Core.Bool.{Bool, true, false}
 use Prim.Native.Nat.{ℕ, zero, suc, _+_, _*_, _-_, _≤_}
@@ -9,7 +9,7 @@ use lib.Seq.{sets, sets-eq, take-append-seam}
 use Rattle.prelude.specs.Choice.{pick}
 use Rattle.text.specs.Hexadecimal.{digitValue, isPair, bytesOf}
 use Rattle.text.specs.Printed.{printed, behind}
-use Rattle.text.proofs.Printing.{Laid, laid, parts, fits, fits-place}
+use Rattle.text.proofs.Printing.{Laid, fits, fits-place}
 
 -- a printed text by another name
 pub renamed : {o : List ℕ} {p : ℕ} {t u x : List ℕ} {q : ℕ} → t ≡ u → Laid o p t x q → Laid o p u x q

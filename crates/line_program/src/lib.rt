@@ -2,7 +2,7 @@
 // come in; these say what holds of all.
 ghost use mathlib.Core.Path.{_≡_};
 ghost use mathlib.Core.Bool.{true};
-ghost use Prim.Native.Nat.{_≤_, min};
+ghost use Prim.Native.Nat.{_≤_};
 ghost use lib.ListN.{length};
 use libc::STDIN_FILENO;
 use libc::STDOUT_FILENO;
@@ -56,19 +56,13 @@ fn read_on(block: &mut [u8], line: &mut [u8], s: Reading) -> Reading
     }
 }
 
-fn least(a: usize, b: usize) -> usize
-    ensures { λ r. ⌜ r ≡ min a b ⌝ }
-{
-    if a < b { a } else { b }
-}
-
 // Reads the next line, up to its line feed or the input's end, where the block's bytes from `from` up to `until` come first. A proved
 // loop has to end, so it counts its turns down from a number that no run uses up.
 pub fn next_line(block: &mut [u8], line: &mut [u8], from: usize, until: usize) -> Reading
     ensures used { λ r. ⌜ r .used ≤ length (now (line .entry)) ⌝ }
     ensures block { λ r. ⌜ r .until ≤ length (now (block .entry)) ⌝ }
 {
-    let stop = least(until, block.len());
+    let stop = text::least(until, block.len());
     let mut s = Reading {
         used: 0,
         ended: false,

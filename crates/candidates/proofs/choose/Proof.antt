@@ -15,11 +15,11 @@ Inv-loop l list source bytes₀ len₀ at₀ bytes len at = Keeping l list sourc
 abbrev μ-loop : tie.MeasureT-loop
 μ-loop l list source bytes₀ len₀ at₀ bytes len at = length list - at
 
-nothing-chosen-requires : tie.Need-nothing-chosen-requires Inv-loop μ-loop
-nothing-chosen-requires c κs = search needs
+empty-requires : tie.Need-empty-requires Inv-loop μ-loop
+empty-requires c κs = search needs
 
 loop-holds : tie.Need-loop-holds Inv-loop μ-loop
-loop-holds c = keep-none _ _ _ (c .before .nothing-chosen .ensures)
+loop-holds c = keep-none _ _ _ (c .before .empty .ensures)
 
 entry-at-requires : tie.Need-entry-at-requires Inv-loop μ-loop
 entry-at-requires c κs = search needs
@@ -99,7 +99,7 @@ choose-spec =
     (tie.spec
     Inv-loop
     μ-loop
-    nothing-chosen-requires
+    empty-requires
     loop-holds
     entry-at-requires
     enum-told

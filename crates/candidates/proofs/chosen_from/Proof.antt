@@ -14,11 +14,11 @@ use Rattle.candidates.proofs.chosen_from.Tie as tie
 is-broken-requires : tie.Need-is-broken-requires
 is-broken-requires c κs = search needs
 
-nothing-chosen-requires : tie.Need-nothing-chosen-requires
-nothing-chosen-requires c κs = search needs
+empty-requires : tie.Need-empty-requires
+empty-requires c κs = search needs
 
 returns : tie.Need-returns
-returns c = answer-refused (now (c .before .before .before .before .args .list)) _ (c .before .before .is-broken .ensures) (c .before .if1 .taken) (c .nothing-chosen .ensures)
+returns c = answer-refused (now (c .before .before .before .before .args .list)) _ (c .before .before .is-broken .ensures) (c .before .if1 .taken) (c .empty .ensures)
 
 usual-requires : tie.Need-usual-requires
 usual-requires c κs = search needs
@@ -34,7 +34,7 @@ chosen-from-spec =
     tie.close
     (tie.spec
     is-broken-requires
-    nothing-chosen-requires
+    empty-requires
     returns
     usual-requires
     choose-requires

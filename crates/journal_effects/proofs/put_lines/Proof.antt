@@ -1,6 +1,6 @@
 use Rattle.journal_effects.proofs.Short.{joined}
 use Rattle.journal_effects.specs.Effects.{linesText}
-use Rattle.text.proofs.Printing.{laid, parts, then, length-kept}
+use Rattle.text.proofs.Printing.{laid, length-kept}
 use mathlib.Core.Path.{_∙_}
 use borrow.Author.Needs.{needs}
 use Rattle.journal_effects.proofs.put_lines.Statement.{statement}

@@ -16,7 +16,7 @@ enum-told-2 : tie.Need-enum-told-2
 enum-told-2 c = search needs
 
 returns : tie.Need-returns
-returns c = attempt-fits (c .before .before .owner .given .1) (c .in-range .ensures)
+returns c = attempt-fits (c .before .before .owner .given .1) (c .in-range .ensures .0)
 
 returns-2 : tie.Need-returns-2
 returns-2 c = inbound-fits (c .enum-told .given .1)
