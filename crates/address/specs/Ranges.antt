@@ -13,7 +13,7 @@ use Rattle.address.specs.declared.Verdict.{Verdict}
 use Rattle.address.specs.declared.Verdict.the-variants.{Always, PrivateOnly, Never}
 use Rattle.address.specs.declared.Range.{Range}
 
--- an address lies in a range when its leading bits equal the prefix's
+-- in a range are the addresses that begin with the prefix's bits
 abbrev pub liesIn : Ip → Prefix → Bool
 liesIn (V4 a) (Net4 p len) = sameLeadingBits 32 len a p
 liesIn (V4 a) (Net6 ph pl len) = false

@@ -1,6 +1,6 @@
 -- The ranges in words: which addresses may be targets (RULES.md, section 6).
 use Prim.Native.Nat.{ℕ, _+_, _*_, _/_, _%_, _^_, _<_}
-use mathlib.Core.Bool.{Bool, true, false}
+use mathlib.Core.Bool.{Bool}
 use lib.Dec.{eqb, leb}
 use Rattle.prelude.specs.Choice.{pick, both, either, no}
 use Rattle.address.specs.declared.Ip.{Ip}
@@ -29,7 +29,7 @@ refused4 a b c d =
 unfoldable pub globalUnicast4 : ℕ → Bool
 globalUnicast4 n = no (refused4 (n / 2 ^ 24) (n / 2 ^ 16 % 2 ^ 8) (n / 2 ^ 8 % 2 ^ 8) (n % 2 ^ 8))
 
--- private targets on: all but unspecified, multicast and 255.255.255.255
+-- private targets on: refused are 0.0.0.0, multicast and 255.255.255.255
 unfoldable pub unicast4 : ℕ → Bool
 unicast4 n = no (either (eqb n 0) (either (within 224 239 (n / 2 ^ 24)) (eqb n 0xffff_ffff)))
 

@@ -2,7 +2,7 @@
 // is_unicast_v4): one table of ranges for both families, in which the longest range that holds the address decides.
 ghost use mathlib.Core.Path.{_≡_};
 ghost use mathlib.Core.Bool.{Bool};
-ghost use Prim.Native.Nat.{ℕ, _+_, _*_, _<_, _≤_, _^_, _-_};
+ghost use Prim.Native.Nat.{_+_, _*_, _<_, _≤_, _^_, _-_};
 ghost use lib.ListN.{length};
 ghost use Rattle.address.specs.LeadingBits.{sameLeadingBits};
 ghost use Rattle.address.specs.Ranges.{liesIn, firstRow, longestRow, table, verdictOf, permits};

@@ -9,7 +9,7 @@ use borrow.Author.Tests.{ltb-true, le-leb, lt-leb, lt-ltb, le-ltb}
 use native.Mathlib.Omega.{arith}
 use lib.Dec.{ltb, leb}
 use Rattle.prelude.specs.Choice.{pick, both}
-use Rattle.budget.specs.Budget.{maxRounds, mayBegin, oneMore, begun, withExchange, ended, windowEnd, upgradeDue, dueAt, valuesOf}
+use Rattle.budget.specs.Budget.{maxRounds, mayBegin, oneMore, begun, upgradeDue, dueAt, valuesOf}
 use Rattle.budget.specs.declared.UpgradeBudget.{UpgradeBudget}
 use Rattle.budget.specs.declared.Exchange.the-variants.{Running}
 use Rattle.budget.specs.declared.UpgradeStop.the-variants.{ExchangeTimeout, UpgradeTimeout}
@@ -57,24 +57,3 @@ deadline-first b at started end r h k = simp (r, le-ltb end (b .deadline) h, le-
     go : (t : Bool) → valuesOf (pick (both t false) (ExchangeTimeout (b .rounds) (end - started)) (UpgradeTimeout (b .deadline - b .armed))) ≡ 2 ∷ (b .deadline - b .armed) ∷ []
     go true = refl
     go false = refl
-
--- what a proof over many calls uses: the deadline stays, and every end is no later
-pub begun-deadline : (b : UpgradeBudget) (at : ℕ) → begun b at .deadline ≡ b .deadline
-unfolding begun oneMore
-begun-deadline b at = go (mayBegin b at)
-  where
-    go : (t : Bool) → pick t (oneMore b at) b .deadline ≡ b .deadline
-    go true = refl
-    go false = refl
-
-pub ended-deadline : (b : UpgradeBudget) → ended b .deadline ≡ b .deadline
-unfolding ended withExchange
-ended-deadline b = refl
-
-pub ended-rounds : (b : UpgradeBudget) → ended b .rounds ≡ b .rounds
-unfolding ended withExchange
-ended-rounds b = refl
-
-pub window-end-le : (b : UpgradeBudget) (start : ℕ) → windowEnd b start ≤ b .deadline
-unfolding windowEnd
-window-end-le b start = omega arith

@@ -1,5 +1,4 @@
 -- What a call makes of the budget that is kept, and what is said of it (README.md). Before the first arm there is no budget.
-use Prim.Native.Nat.{ℕ}
 use Rattle.budget.specs.Budget.{armed, mayBegin, begun, ended, windowEnd, dueAt}
 use Rattle.budget.specs.declared.UpgradeBudget.{UpgradeBudget}
 use Rattle.budget_calls.specs.declared.Call.{Call}

@@ -1,6 +1,5 @@
 // Makes the calls of `budget` that stand on standard input, a line for a line, on one budget. README.md has the lines.
 ghost use mathlib.Core.Path.{_≡_};
-ghost use mathlib.Core.Bool.{Bool};
 ghost use Prim.Native.Nat.{_≤_};
 ghost use lib.ListN.{length};
 ghost use Rattle.text.specs.Printed.{printed, behind};

@@ -60,7 +60,7 @@ lasts now NoEnd = false
 unfoldable pub windowOpen : PeerId → ℕ → List Row → Bool
 windowOpen peer now rs = lasts now (endAt peer rs)
 
--- a window that is there is extended, never shortened
+-- the later of the two ends
 abbrev pub later : ℕ → Deadline → ℕ
 later until (EndAt end) = pick (ltb end until) until end
 later until NoEnd = until

@@ -1,13 +1,13 @@
 -- A number field is read just where its key and its number's text stand. Assumes nothing.
-use mathlib.Core.Path.{_≡_, refl, sym, ap, subst, _∙_}
-use mathlib.Core.List.{List, [], _∷_, _++_, append-assoc, append-nil}
+use mathlib.Core.Path.{_≡_, refl, sym, ap, _∙_}
+use mathlib.Core.List.{List, _++_, append-assoc}
 use mathlib.Core.Bool.{Bool, true, false}
-use Prim.Native.Nat.{ℕ, suc, _+_, _-_, _<_, _≤_}
+use Prim.Native.Nat.{ℕ, _+_, _-_, _≤_}
 use native.Mathlib.Omega.{arith}
-use lib.Dec.{ltb, eqb}
-use lib.ListN.{length, take, drop, length-take, length-drop, length-append, take-append-drop}
-use lib.Seq.{take-all, drop-drop, drop-append-seam, take-append-seam, drop-length}
-use borrow.Author.Tests.{lt-ltb, le-ltb, ltb-true, ltb-false, eqb-true, eq-eqb}
+use lib.Dec.{ltb}
+use lib.ListN.{length, take, drop, length-drop, length-append, take-append-drop}
+use lib.Seq.{drop-drop, drop-append-seam, take-append-seam}
+use borrow.Author.Tests.{le-ltb}
 use Rattle.prelude.specs.Choice.{pick}
 use Rattle.text.specs.Words.{begins, lengthBefore}
 use Rattle.text.specs.Decimal.{most, decimalOf, decimal}
@@ -15,9 +15,7 @@ use Rattle.text.specs.declared.Number.{Number}
 use Rattle.text.specs.declared.Number.the-variants as number-of
 use Rattle.text.proofs.Decimal.{number-text, number-read, number-run, begins-split, begins-word}
 use Rattle.fields.specs.Fields.{part, valueAt, numberAt, numberIn, asNumber}
-use Rattle.fields.specs.declared.Span.{Span}
 use Rattle.fields.specs.declared.Span.the-variants as span
-use Rattle.fields.specs.declared.NumberField.{NumberField}
 use Rattle.fields.specs.declared.NumberField.the-variants.{At, Bad}
 
 -- ---- what is read stands there

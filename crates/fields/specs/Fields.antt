@@ -1,7 +1,7 @@
 -- The fields of a line (RULES.md, section 12): a key at a place, and behind it its value up to the next space, 32, or the line's end.
 use Prim.Native.Nat.{ℕ, _+_, _-_}
 use mathlib.Core.List.{List}
-use mathlib.Core.Bool.{Bool, true, false}
+use mathlib.Core.Bool.{true, false}
 use lib.ListN.{length, take, drop}
 use lib.Dec.{ltb, eqb}
 use Rattle.prelude.specs.Choice.{pick}

@@ -6,8 +6,6 @@ use mathlib.Core.Bool.{Bool}
 use lib.ListN.{length}
 use lib.Dec.{eqb}
 use Rattle.prelude.specs.Choice.{pick}
-use Rattle.fields.specs.declared.Span.{Span}
-use Rattle.fields.specs.declared.Span.the-variants as span
 use Rattle.fields.specs.declared.NumberField.{NumberField}
 use Rattle.fields.specs.declared.NumberField.the-variants as numberField
 use Rattle.fields.specs.declared.ChoiceField.{ChoiceField}

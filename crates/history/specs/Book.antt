@@ -1,6 +1,6 @@
 -- The book of demand 3: a plain machine that is fed the settings, the calls' arguments and which calls were refused. It takes the
--- steps of RULES.md, section 11, and keeps of each window its list, start, end, round trip and largest reading; it sends nothing
--- and counts nothing.
+-- steps of RULES.md, section 11, and keeps of each window the list, when it starts and ends, the round trip and the largest reading. It
+-- sends nothing and counts nothing.
 use Prim.Native.Nat.{ℕ, _+_, _-_, min}
 use mathlib.Core.Bool.{Bool, true, false}
 use mathlib.Core.List.{List, [], _∷_, _++_}

@@ -88,7 +88,7 @@ stepOf c (tick l h) = answered (tickOf c l h)
 stepOf c (wrote at conn stream) = silent (wroteOf c at conn stream)
 stepOf c (down at peer conn) = silent (downOf c conn)
 
--- the datagrams of all answers, in order; each call acts on the circuit that the last one left
+-- what the answers send, in order; a call acts on what the one before it left
 unfoldable pub datagrams : InboundCircuit → List Call → List Datagram
 datagrams c [] = []
 datagrams c (k ∷ ks) = stepOf c k .sent ++ datagrams (stepOf c k .circuit) ks

@@ -1,4 +1,4 @@
--- Demand 3 (RULES.md, section 11.10): the datagrams of one circuit, new with any settings, after every list of its calls.
+-- Demand 3 (RULES.md, section 11.10): what one circuit sends over any list of its calls, whatever its settings.
 use mathlib.Core.Path.{_≡_}
 use Prim.Native.Nat.{ℕ, _+_, _-_, _*_, _/_, _≤_, max}
 use mathlib.Core.List.{List, [], _∷_, _++_}
@@ -33,7 +33,7 @@ windowsOf source relay circuit s at calls =
     (notes s (record { source = source; circuit = circuit }) (fresh s at) calls (refusals (newOf source relay circuit s at) calls))
 
 pub record Demand3 (source relay : PeerId) (circuit : ConnectionId) (s : Settings) (at : ℕ) (calls : List Call) : Type 0 where
-  -- the datagrams of all answers, bursts written out, in order: these, and no other
+  -- what is sent, each burst written out, is this and nothing else
   pub same : datagrams (newOf source relay circuit s at) calls ≡ due s (windowsOf source relay circuit s at calls)
   -- the interval 0 counts as 1
   pub bound :

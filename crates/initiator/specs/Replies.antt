@@ -1,7 +1,7 @@
 -- What the gathered bytes answer (RULES.md, sections 3 and 4).
 use Prim.Native.Nat.{ℕ}
 use mathlib.Core.List.{List}
-use lib.ListN.{length, take, drop}
+use lib.ListN.{take, drop}
 use Rattle.wire.specs.declared.Frame.{Frame}
 use Rattle.wire.specs.declared.Frame.the-variants as f
 use Rattle.message.specs.Message.{decodeOf, decodeInto}

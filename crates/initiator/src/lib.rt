@@ -7,7 +7,7 @@ use wire::MAX_FRAME_SIZE;
 ghost use mathlib.Core.Path.{_≡_};
 ghost use mathlib.Core.List.{List, []};
 ghost use Prim.Native.Nat.{ℕ, _+_, _<_, _≤_};
-ghost use lib.ListN.{length, take, replicate};
+ghost use lib.ListN.{length, replicate};
 ghost use lib.Seq.{sets};
 ghost use Rattle.message.specs.Message.{decodeOf, decodeInto};
 ghost use Rattle.message.specs.Encoding.{frameBytes};

@@ -1,9 +1,8 @@
 -- What is answered to a line is what the definitions say. Assumes nothing.
-use mathlib.Core.Path.{_≡_, refl, sym, ap, subst, _∙_}
+use mathlib.Core.Path.{_≡_, sym, ap, _∙_}
 use mathlib.Core.List.{List, []}
-use mathlib.Core.Bool.{Bool, true, false}
+use mathlib.Core.Bool.{Bool}
 use Prim.Native.Nat.{ℕ}
-use Rattle.prelude.specs.Choice.{pick}
 use Rattle.text.specs.Words.{lengthBefore}
 use Rattle.text.specs.Printed.{printed}
 use Rattle.text.proofs.Printing.{laid-none}

@@ -2,7 +2,6 @@
 use Prim.Native.Nat.{ℕ, _≤_}
 use mathlib.Core.Path.{_≡_, refl, ap, sym, _∙_}
 use mathlib.Core.Bool.{Bool, true, false}
-use mathlib.Core.List.{List}
 use native.Mathlib.Omega.{arith}
 use lib.ListN.{length}
 use Rattle.prelude.specs.Choice.{pick}
@@ -22,8 +21,8 @@ use Rattle.rows.proofs.Laws.{crowded-is, is-crowded}
 use Rattle.entries.specs.Entries.{punchEnd}
 use Rattle.ledger.specs.declared.PathLedger.{PathLedger}
 use Rattle.ledger.specs.declared.Attributed.{Attributed}
-use Rattle.ledger.specs.declared.Outcome.the-variants.{Accepted, Refused}
-use Rattle.ledger.specs.declared.Answer.the-variants.{Path as Named, None as Unnamed, Refused as NotNamed}
+use Rattle.ledger.specs.declared.Outcome.the-variants.{Refused}
+use Rattle.ledger.specs.declared.Answer.the-variants.{Path as Named, Refused as NotNamed}
 use Rattle.ledger.specs.Ledger.{dialsOf, windowsOf, pathsOf, withDials, withWindows, withPaths, dialRow, windowRow, pathRow, fullOr, dialStarted, refusesPunches, expectPunches, judgedBy, recorded, attributed}
 use Rattle.ledger_laws.specs.Laws.{Needs65}
 

@@ -10,7 +10,7 @@ use Rattle.path.specs.declared.DialPurpose.{DialPurpose}
 use Rattle.path.specs.declared.Claim.{Claim}
 use Rattle.dials.specs.declared.FirstLive.{FirstLive}
 use Rattle.ledger.specs.declared.PathLedger.{PathLedger}
-use Rattle.ledger.specs.Ledger.{emptyLedger, dialStarted, finishDial, abortedDials, expectPunches, endPunches, ticked, attributed, forgotten}
+use Rattle.ledger.specs.Ledger.{dialStarted, finishDial, abortedDials, expectPunches, endPunches, ticked, attributed, forgotten}
 
 -- a call that may change the ledger, with its arguments; of the live connections, what is the first of each peer
 pub data Call : Type 0 where

@@ -1,20 +1,19 @@
 -- The records of a text, one after the other. Assumes nothing.
-use mathlib.Core.Path.{_≡_, refl, sym, ap, subst, _∙_}
-use mathlib.Core.List.{List, [], _∷_, _++_}
+use mathlib.Core.Path.{_≡_, refl, ap, subst, _∙_}
+use mathlib.Core.List.{List, [], _∷_}
 use mathlib.Core.Bool.{Bool, true, false}
-use Prim.Native.Nat.{ℕ, zero, suc, _+_, _-_, _<_, _≤_}
-use native.Mathlib.Numerals.{add-one}
+use Prim.Native.Nat.{ℕ, suc, _+_, _-_, _<_, _≤_}
 use native.Mathlib.Omega.{arith}
 use lib.Dec.{eqb}
 use lib.ListN.{length, take, drop, length-drop}
-use lib.Seq.{take-all, drop-drop}
+use lib.Seq.{drop-drop}
 use borrow.Author.Tests.{eqb-true, eqb-false}
 use Rattle.prelude.specs.Choice.{pick}
 use Rattle.text.specs.Words.{lengthBefore}
 use Rattle.text.proofs.Reading.{before-within}
 use Rattle.text.proofs.Printing.{Laid, Left, left-none, left-more, rest-of}
 use Rattle.fields.specs.Fields.{part}
-use Rattle.ledger_lines.specs.Values.{recordOf, recordAt, before, between, isRecord, allRecords, numbersIn}
+use Rattle.ledger_lines.specs.Values.{recordOf, recordAt, before, between, allRecords, numbersIn}
 use Rattle.ledger_lines.specs.declared.Record.{Record}
 use Rattle.ledger_lines.specs.declared.Record.the-variants.{Good, Bad}
 use Rattle.ledger_lines.specs.declared.RecordAt.{RecordAt}

@@ -1,7 +1,6 @@
 -- The call of a line (README.md of `ledger_calls`): its keys in their order, and nothing behind the last.
 use Prim.Native.Nat.{ℕ}
 use mathlib.Core.List.{List}
-use mathlib.Core.Bool.{Bool}
 use Rattle.prelude.specs.Choice.{pick}
 use Rattle.text.specs.Words.{ascii, begins, isWord}
 use Rattle.fields.specs.Fields.{numberAt, choiceAt, valueAt, part}

@@ -3,7 +3,7 @@ use Prim.Native.Nat.{ℕ, _+_}
 use mathlib.Core.List.{List, [], _∷_}
 use mathlib.Core.Bool.{Bool, true, false}
 use lib.ListN.{length, take, drop}
-use lib.Dec.{eqb, ltb, leb}
+use lib.Dec.{eqb, leb}
 use Rattle.prelude.specs.Choice.{pick, both, either}
 use Rattle.text.specs.Words.{ascii, begins, isWord, lengthBefore}
 use Rattle.text.specs.Decimal.{decimalOf}
@@ -11,7 +11,6 @@ use Rattle.text.specs.declared.Number.{Number}
 use Rattle.text.specs.declared.Number.the-variants as num
 use Rattle.fields.specs.Fields.{numberAt, part}
 use Rattle.fields.specs.Line.{number, ends}
-use Rattle.ids.specs.declared.ConnectId.{ConnectId}
 use Rattle.path.specs.declared.Owner.{Owner}
 use Rattle.path.specs.declared.Owner.the-variants as owner
 use Rattle.path.specs.declared.Path.the-variants as path

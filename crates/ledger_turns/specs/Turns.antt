@@ -1,5 +1,4 @@
 -- What a call makes of the ledger that is kept, and what is said of it (README.md).
-use Prim.Native.Nat.{ℕ}
 use Rattle.path.specs.declared.FoundDial.{FoundDial}
 use Rattle.path.specs.declared.FoundDial.the-variants as foundDial
 use Rattle.path.specs.declared.FoundPath.{FoundPath}

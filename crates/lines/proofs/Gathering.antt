@@ -1,15 +1,12 @@
 -- A block's bytes up to a line feed, stored in the line's buffer. Assumes nothing.
-use mathlib.Core.Path.{_≡_, refl, sym, ap, _∙_}
-use mathlib.Core.List.{List, [], _∷_, _++_}
-use mathlib.Core.Bool.{Bool, true, false}
-use Prim.Native.Nat.{ℕ, suc, _+_, _-_, _<_, _≤_, min}
+use mathlib.Core.Path.{_≡_, ap, _∙_}
+use mathlib.Core.List.{List, []}
+use mathlib.Core.Bool.{true, false}
+use Prim.Native.Nat.{ℕ, _+_, _-_, _<_, _≤_}
 use native.Mathlib.Omega.{arith}
 use native.Mathlib.Nat.{add-zero}
-use lib.Dec.{ltb}
 use lib.ListN.{length, take, drop, length-drop, drop-of-length-le}
-use lib.Seq.{take-all, sets}
-use borrow.Author.Tests.{lt-ltb, le-ltb, ltb-false}
-use Rattle.prelude.specs.Choice.{pick}
+use borrow.Author.Tests.{lt-ltb, le-ltb}
 use Rattle.text.specs.Words.{lengthBefore}
 use Rattle.text.specs.Printed.{printed, behind}
 use Rattle.text.proofs.Reading.{before-within}
@@ -50,14 +47,6 @@ nothing b from line used h =
     let k : from + 0 ≡ from = add-zero from in
     let l : Laid line used [] line used = laid-none line used in
     (rw (d, k, le-ltb from (length b) h, ← l .place), rw (d, ← l .bytes))
-
--- each call goes forward in the block
-pub forward : (b : List ℕ) (from : ℕ) (line : List ℕ) (used : ℕ) {r : Gathered} → r ≡ gathered b from line used → from < length b → from < r .next
-forward b from line used {r} e h = let g = go (ltb (endFrom b from) (length b)) refl in omega (arith, ap (λ (f : Gathered). f .next) e)
-  where
-    go : (t : Bool) → ltb (endFrom b from) (length b) ≡ t → from < pick t (endFrom b from + 1) (endFrom b from)
-    go true e = omega arith
-    go false e = let l : length b ≤ endFrom b from = ltb-false _ _ e in omega arith
 
 -- the line stays within its buffer
 pub used-within : (b : List ℕ) (from : ℕ) (line : List ℕ) (used : ℕ) {r : Gathered} → r ≡ gathered b from line used → used ≤ length line → r .used ≤ length line

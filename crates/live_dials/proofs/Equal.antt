@@ -1,8 +1,7 @@
 -- Over records the first live connections are those of the plain form, over the records' peers and connections. Assumes nothing.
-use mathlib.Core.Path.{_≡_, refl, sym, ap, _∙_}
+use mathlib.Core.Path.{_≡_, refl, ap, _∙_}
 use mathlib.Core.List.{List, [], _∷_, map}
 use mathlib.Core.Bool.{Bool, true, false}
-use Prim.Native.Nat.{ℕ}
 use Rattle.ids.specs.declared.PeerId.{PeerId}
 use Rattle.ids.specs.declared.ConnectId.{ConnectId}
 use Rattle.rows.specs.declared.Row.{Row}
@@ -16,7 +15,7 @@ use Rattle.ledger.specs.Ledger.{withDropped, abortedWith, abortedDials}
 use Rattle.dials.proofs.Each.{pairs-map}
 use Rattle.live_dials.specs.declared.Live.{Live}
 use Rattle.live_dials.specs.declared.Found.the-variants.{At}
-use Rattle.live_dials.specs.First.{isPeer, firstOf, liveOf, first, firstsOf, peersOf, connectionsOf}
+use Rattle.live_dials.specs.First.{isPeer, firstOf, liveOf, first, peersOf, connectionsOf}
 use Rattle.live_dials.specs.Asking.{askedRows, firstsFor}
 
 same-first : (ls : List Live) (p : PeerId) → liveOf (firstOf ls p) ≡ firstIn (peersOf ls) (connectionsOf ls) p

@@ -1,4 +1,4 @@
-// Dropping the dials of a connect attempt (`abort_attempt_dials` of ledger.rs), where the live connections come as a lent list of records.
+// Dropping the dials of a connect attempt (`abort_attempt_dials` of ledger.rs), over the live connections as a lent slice of records.
 // The borrow checker covers no function with a reference to a slice of structs: `first_live`, `first_lives`, `firsts_for` and
 // `abort_attempt_dials` are proved by hand, walking their code. The others take their values, and are covered.
 ghost use mathlib.Core.Path.{_≡_};

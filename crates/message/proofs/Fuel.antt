@@ -1,16 +1,15 @@
 -- The bound of a scan plays no part from the message's length on, so that reading meets the equations that a reader expects.
 -- Assumes nothing.
-use mathlib.Core.Path.{_≡_, refl, sym, ap, _∙_}
+use mathlib.Core.Path.{_≡_, refl, sym, ap}
 use mathlib.Core.List.{List, [], _∷_}
-use mathlib.Core.Bool.{Bool, true, false}
 use Prim.Native.Nat.{ℕ, zero, suc, _+_, _-_, _<_, _≤_}
 use native.Mathlib.Omega.{arith}
-use lib.Dec.{eqb, eqb·suc-zero}
+use lib.Dec.{eqb·suc-zero}
 use lib.ListN.{length, take, drop, length-drop}
 use Rattle.prelude.specs.Choice.{pick}
 use Rattle.refusal.specs.declared.Refusal.the-variants.{WrongType}
 use Rattle.message.specs.Fields.{fieldOf}
-use Rattle.message.specs.Message.{Content, refused, also, known, ended, step, scan}
+use Rattle.message.specs.Message.{Content, refused, also, known, step, scan}
 use Rattle.message.specs.declared.Field.{Field}
 use Rattle.message.specs.declared.Field.the-variants as f
 use Rattle.message.proofs.Scan.{Within, field-within, scan-nil}
@@ -36,12 +35,3 @@ enough (suc n) (suc m) k (b ∷ t) h g =
 -- what the rest s of a message says where the type k was met last
 abbrev pub rest : ℕ → List ℕ → Content
 rest k s = scan (length s) k s
-
-pub rest-none : (k : ℕ) → rest k [] ≡ ended k
-rest-none k = scan-nil 0 k
-
-pub rest-some : (k b : ℕ) (t : List ℕ) → rest k (b ∷ t) ≡ step rest k (b ∷ t) (fieldOf (b ∷ t))
-unfolding scan
-rest-some k b t =
-    rw (eqb·suc-zero (length t))
-    (step-same (scan (length t)) rest k (b ∷ t) (omega arith) (fieldOf (b ∷ t)) (field-within (b ∷ t)) (λ j u l. enough (length t) (length u) j u (omega arith) (omega arith)))

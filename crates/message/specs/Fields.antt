@@ -1,4 +1,4 @@
--- The fields of a HolePunch message (RULES.md, section 3).
+-- The fields of a HolePunch message (RULES.md, section 2).
 use Prim.Native.Nat.{ℕ, _+_, _/_, _%_}
 use mathlib.Core.List.{List}
 use lib.ListN.{length, drop}

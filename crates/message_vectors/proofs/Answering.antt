@@ -1,5 +1,5 @@
 -- What each function prints is what the definitions say. Assumes nothing.
-use mathlib.Core.Path.{_≡_, refl, sym, ap, _∙_}
+use mathlib.Core.Path.{_≡_, ap, _∙_}
 use mathlib.Core.List.{List, [], _∷_, _++_}
 use mathlib.Core.Bool.{Bool, true, false}
 use Prim.Native.Nat.{ℕ, zero, suc, _+_, _/_, _%_, _≤_, _<_}
@@ -16,11 +16,8 @@ use Rattle.fields.specs.Fields.{part}
 use Rattle.line_program.proofs.Answers.{stored-whole, take-replicate}
 use Rattle.refusal.specs.Number.{numberOf}
 use Rattle.refusal.specs.declared.Refusal.{Refusal}
-use Rattle.wire.specs.Varint.{varintOf, groups, encoded}
-use Rattle.wire.specs.Frame.{frameOf}
+use Rattle.wire.specs.Varint.{groups, encoded}
 use Rattle.wire.specs.Lists.{entries, broken}
-use Rattle.wire.specs.declared.Varint.{Varint}
-use Rattle.wire.specs.declared.Frame.{Frame}
 use Rattle.message.specs.Message.{decodeOf, decodeInto}
 use Rattle.message.specs.Encoding.{encodeOf, encodeInto}
 use Rattle.message.specs.declared.Kind.{Kind}
@@ -28,7 +25,7 @@ use Rattle.message.specs.declared.Kind.the-variants.{Connect, Sync}
 use Rattle.message.specs.declared.Decoded.{Decoded}
 use Rattle.message.specs.declared.Encoded.{Encoded}
 use Rattle.message_vectors.specs.Requests.{requestOf}
-use Rattle.message_vectors.specs.Answers.{badText, varintText, encodeText, frameText, listText, filler, refusedText, decodedText, readText, encodedText, writeText, kindNamed, respondText, answerText, lineText}
+use Rattle.message_vectors.specs.Answers.{badText, encodeText, listText, filler, refusedText, decodedText, readText, encodedText, writeText, respondText, answerText, lineText}
 use Rattle.message_vectors.specs.declared.Call.{Call}
 use Rattle.message_vectors.specs.declared.Call.the-variants as call
 use Rattle.message_vectors.specs.declared.Request.{Request}

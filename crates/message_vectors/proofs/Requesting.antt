@@ -8,7 +8,7 @@ use lib.ListN.{length}
 use Rattle.prelude.specs.Choice.{pick}
 use Rattle.text.specs.Words.{ascii, begins}
 use Rattle.fields.specs.Fields.{numberAt, choiceAt, bytesAt}
-use Rattle.fields.specs.Line.{number, choice, bytes, ends}
+use Rattle.fields.specs.Line.{number, bytes, ends}
 use Rattle.fields.proofs.Chain.{number-all, choice-all, bytes-all, ends-all}
 use Rattle.message_vectors.specs.Requests.{asking, badRequest, varintRequest, encodeRequest, frameRequest, listRequest, readRequest, writeRequest, requestOf}
 use Rattle.message_vectors.specs.declared.Call.the-variants.{Varint, Encode, Frame, List as ListOf, Read, Write}

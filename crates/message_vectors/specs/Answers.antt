@@ -1,7 +1,7 @@
 -- What is printed of each call (README.md), a line feed at its end.
 use Prim.Native.Nat.{ℕ}
 use mathlib.Core.List.{List, _++_}
-use mathlib.Core.Bool.{Bool, true, false}
+use mathlib.Core.Bool.{Bool}
 use lib.ListN.{length, take, replicate}
 use lib.Dec.{ltb}
 use Rattle.prelude.specs.Choice.{pick}

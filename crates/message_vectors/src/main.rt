@@ -1,8 +1,8 @@
 // Answers calls of `wire` and `message` that stand on standard input, a line for a line. README.md has the lines.
 ghost use mathlib.Core.Path.{_≡_};
 ghost use mathlib.Core.List.{List};
-ghost use Prim.Native.Nat.{ℕ, _≤_};
-ghost use lib.ListN.{length, take};
+ghost use Prim.Native.Nat.{_≤_};
+ghost use lib.ListN.{length};
 ghost use Rattle.text.specs.Printed.{printed, behind};
 ghost use Rattle.wire.specs.Lists.{entries};
 ghost use Rattle.message.specs.Message.{decodeInto};

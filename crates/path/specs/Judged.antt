@@ -25,7 +25,7 @@ circuitPath NoClaim = NoPath
 circuitPath (Circuit relay owner) = PathAt (record { path = Relayed relay; owner = owner })
 circuitPath (DirectClaim id) = NoPath
 
--- punched for the attempt of its punch dial
+-- a punch dial says: punched, and its attempt is the owner
 abbrev pub byPurpose : DialPurpose → Attribution → Attribution
 byPurpose (Relay id relay) other = other
 byPurpose (Punch id) other = record { path = Punched; owner = Attempt id }

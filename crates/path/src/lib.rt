@@ -103,7 +103,7 @@ fn by_claim(claim: Claim, other: Attribution) -> Attribution
     }
 }
 
-// Punched for the attempt of its punch dial.
+// A punch dial says: punched, and its attempt is the owner.
 fn by_dial(dial: FoundDial, other: Attribution) -> Attribution
     ensures { λ r. ⌜ r ≡ byDial dial other ⌝ }
 {

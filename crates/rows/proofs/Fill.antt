@@ -3,7 +3,7 @@ use Prim.Native.Nat.{ℕ, zero, suc, _≤_, _<_, _-_, _+_}
 use mathlib.Core.Path.{_≡_, refl, ap, sym, _∙_}
 use mathlib.Core.List.{List, [], _∷_, _++_, append-assoc}
 use native.Mathlib.Omega.{arith}
-use lib.ListN.{set, length, take, replicate, length-append, length-take, length-replicate}
+use lib.ListN.{set, length, take, replicate, length-append, length-take}
 use lib.Seq.{take-all, take-nil, take-append-le, take-append-seam, set-append-seam}
 use Rattle.rows.specs.Rows.{padded}
 
@@ -24,10 +24,6 @@ module _ {A : Type 0} where
   take-used (suc c) (x ∷ xs) = ap (λ (l : List A). x ∷ l) (take-used c xs)
 
 module _ {A : Type 0} (z : A) where
-  pub length-padded : (xs : List A) → length xs ≤ 64 → length (padded z xs) ≡ 64
-  unfolding padded
-  length-padded xs h = simp (length-append, length-replicate) (omega arith)
-
   pub take-padded : (xs : List A) → take (length xs) (padded z xs) ≡ xs
   unfolding padded
   take-padded xs = take-append-seam xs (replicate (64 - length xs) z)
@@ -45,9 +41,6 @@ pub record Filled {A : Type 0} (z : A) (array : List A) (count : ℕ) (xs : List
   pub count-is : count ≡ length (take 64 xs)
 
 module _ {A : Type 0} {z : A} {array : List A} {count : ℕ} {xs : List A} (f : Filled z array count xs) where
-  pub filled-64 : length array ≡ 64
-  filled-64 = ap length (f .array-is) ∙ length-padded z (take 64 xs) (length-first 64 xs)
-
   pub filled-≤ : count ≤ 64
   filled-≤ = omega (arith, length-first 64 xs, f .count-is)
 

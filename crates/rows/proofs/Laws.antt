@@ -85,9 +85,6 @@ or-nothing Nothing = refl
 not-below-itself : (k : ℕ) (r : Row) → r .key ≡ k → ltb (r .key) k ≡ false
 not-below-itself k r e = le-ltb (r .key) k (omega arith)
 
-not-above-itself : (k : ℕ) (r : Row) → r .key ≡ k → ltb k (r .key) ≡ false
-not-above-itself k r e = le-ltb k (r .key) (omega arith)
-
 pub find-inserted : (r : Row) (rs : List Row) → findIn (r .key) (inserted r rs) ≡ At (r .entry)
 unfolding findIn
 find-inserted r rs =

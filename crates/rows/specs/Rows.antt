@@ -1,6 +1,6 @@
 -- A table as the list of its rows in use, and what is done to the list (RULES.md, section 10).
 use Prim.Native.Nat.{ℕ, _-_}
-use mathlib.Core.Bool.{Bool, true, false}
+use mathlib.Core.Bool.{Bool, true}
 use mathlib.Core.List.{List, [], _∷_, _++_}
 use lib.ListN.{length, take, replicate}
 use lib.Dec.{eqb, ltb, leb}

@@ -14,7 +14,7 @@ use Rattle.prelude.specs.Choice.{pick}
 use Rattle.time.specs.Time.{last}
 use Rattle.schedule.specs.Instants.{instants, countTo}
 use Rattle.schedule.specs.Schedule.{ahead, scheduleOf, without, timesOf, dueOf, windowOf, openedOf}
-use Rattle.schedule.specs.Readings.{Largest, none, reading, larger, largestOf, counted, sumOf, sentOf, sumAll, sentAll, Once, FirstWithReply}
+use Rattle.schedule.specs.Readings.{Largest, none, larger, largestOf, counted, sumOf, sentOf, sumAll, sentAll, Once, FirstWithReply}
 use Rattle.schedule.specs.declared.BlastSchedule.{BlastSchedule}
 use Rattle.schedule.specs.declared.BlastSchedule.the-variants.{Next, Over}
 use Rattle.schedule.proofs.Instants.{instants-none, instants-some, length-none, length-some, length-le, length-skip, drop-instants, count-early, instant-at, fits-mul}

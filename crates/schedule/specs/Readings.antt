@@ -2,14 +2,13 @@
 use mathlib.Core.Path.{_≡_}
 use Prim.Native.Nat.{ℕ, _+_, _<_, max}
 use mathlib.Core.List.{List, [], _∷_, _++_}
-use mathlib.Core.Bool.{Bool, true, false}
+use mathlib.Core.Bool.{Bool, false}
 use lib.ListN.{length, getD, take, drop}
 use lib.Dec.{leb, eqb}
 use Rattle.prelude.specs.Choice.{both, either}
 use Rattle.schedule.specs.Instants.{instants, countIf}
 use Rattle.schedule.specs.Schedule.{ahead, dueOf, openedOf}
 use Rattle.schedule.specs.declared.BlastSchedule.{BlastSchedule}
-use Rattle.schedule.specs.declared.NewlyDue.{NewlyDue}
 
 -- the largest of some readings, if there was one
 pub data Largest : Type 0 where

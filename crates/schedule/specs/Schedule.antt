@@ -1,7 +1,6 @@
 -- A schedule and what is newly due (RULES.md, section 9).
 use Prim.Native.Nat.{ℕ, min}
 use mathlib.Core.List.{List, [], _∷_}
-use mathlib.Core.Bool.{Bool}
 use lib.ListN.{drop}
 use lib.Dec.{leb, eqb}
 use Rattle.prelude.specs.Choice.{pick}

@@ -2,14 +2,14 @@
 -- Assumes nothing.
 use mathlib.Core.Path.{_≡_, refl}
 use mathlib.Core.Bool.{true}
-use mathlib.Core.List.{List, [], _∷_, _++_}
+use mathlib.Core.List.{List, [], _∷_}
 use Prim.Native.Nat.{ℕ}
 use Rattle.ids.specs.declared.PeerId.{PeerId}
 use Rattle.ids.specs.declared.ConnectionId.{ConnectionId}
 use Rattle.inbound.specs.declared.InboundCircuit.{InboundCircuit}
 use Rattle.inbound.specs.declared.Settings.{Settings}
 use Rattle.inbound.specs.Circuit.{newOf}
-use Rattle.history.specs.Calls.{Step, stepOf, datagrams, refusals}
+use Rattle.history.specs.Calls.{stepOf, datagrams, refusals}
 use Rattle.history.proofs.Run as run
 use Rattle.history.proofs.Bound as count
 use Rattle.history.proofs.Refusals.{refused-changes-nothing}

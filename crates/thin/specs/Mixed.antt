@@ -42,7 +42,7 @@ leaves c (byValue k) = stepOf c k
 leaves c (thinTick l h) = lent (tickOf c l h) (tickOf c l h .circuit)
 leaves c (thinWrote at conn stream) = record { circuit = wroteOf c at conn stream; sent = []; refused = false }
 
--- the datagrams of all answers, in order; each call acts on the circuit that the last one left
+-- what the answers send, in order; a call acts on what the one before it left
 unfoldable pub sent : InboundCircuit → List Mixed → List Datagram
 sent c [] = []
 sent c (m ∷ ms) = leaves c m .sent ++ sent (leaves c m .circuit) ms

@@ -1,7 +1,7 @@
 -- Base 128 varints (RULES.md, section 2).
 use Prim.Native.Nat.{ℕ, zero, suc, _+_, _*_, _/_, _%_}
 use mathlib.Core.List.{List, [], _∷_}
-use lib.ListN.{length, getD, take}
+use lib.ListN.{getD, take}
 use lib.Dec.{ltb, leb, eqb}
 use Rattle.prelude.specs.Choice.{pick}
 use Rattle.wire.specs.declared.Varint.{Varint}

@@ -1,7 +1,7 @@
 -- The worked examples of the rule, in one table: what a definition gives, and what it must be (RULES.md, sections 4, 6, 7 and 9).
 use mathlib.Core.Path.{_≡_}
 use mathlib.Core.Bool.{false}
-use mathlib.Core.List.{List, [], _∷_, _++_}
+use mathlib.Core.List.{List, [], _∷_}
 use Prim.Native.Nat.{ℕ, _/_, _%_}
 use lib.ListN.{replicate}
 use Rattle.wire.specs.Frame.{frameOf}

@@ -6,7 +6,6 @@ use Rattle.address.specs.Words.{globalUnicast4, mayBeTarget}
 use Rattle.candidates.specs.Entries.{count, only}
 use Rattle.candidates.specs.Selection.{room, bounded, selected}
 use Rattle.schedule.specs.Instants.{halfOf}
-use Rattle.worked_examples.specs.Table.{WorkedExamples}
 use Rattle.worked_examples.proofs.worked_examples.Statement.{statement}
 use Rattle.worked_examples.proofs.worked_examples.Tie as tie
 
