@@ -34,8 +34,8 @@ pub(crate) fn burst(times: u64, payload: usize, list: &[Multiaddr]) -> String {
     )
 }
 
-/// What is left of a window's instants, in closed form, by the rule's
-/// words: start, start + i, start + 2i, up to and including the end.
+/// What is left of a window's instants, in closed form: from the start on,
+/// one interval apart, the last no later than the end.
 #[derive(Clone, Copy, Debug)]
 pub(crate) struct Instants {
     /// The first instant not sent, if it is no later than the end.

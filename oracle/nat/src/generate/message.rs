@@ -313,7 +313,7 @@ fn named_bad(out: &mut Vec<String>) {
     ] {
         out.push(line.to_string());
     }
-    // A line of 32,768 bytes with its line feed, and one of a byte more.
+    // The longest line that is read, and one of a byte more.
     let fits = "a".repeat(32_768 - 1 - "do=list in=".len());
     out.push(format!("do=list in=0{}", &fits[1..]));
     out.push(format!("do=list in=0{fits}"));

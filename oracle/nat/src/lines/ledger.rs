@@ -405,8 +405,7 @@ fn live(word: &[u8]) -> Option<Vec<(u64, u64)>> {
         .collect()
 }
 
-/// Live connections as peer and connection records; the first for a peer
-/// counts.
+/// The live connections; of a peer's records the first is taken.
 struct Live(Vec<(u64, u64)>);
 
 impl NatSwarm for Live {

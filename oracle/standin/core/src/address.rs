@@ -1,5 +1,5 @@
-//! Addresses: 04 and four bytes, or 29 and sixteen; then 91 02, a two-byte
-//! big-endian port, cd 03. Nothing follows. Other bytes are no address.
+//! Addresses: ip4 (04) or ip6 (29), udp (91 02) with its port, the high byte
+//! first, and quic-v1 (cd 03), whole. Other bytes are no address.
 
 use std::rc::Rc;
 

@@ -1,6 +1,6 @@
-//! Frames: a varint length of 0 to the maximum, one or two bytes, shortest,
-//! then the message. A frame fails as soon as the second length byte has its
-//! top bit set, is zero, or makes the length exceed the maximum.
+//! Frames: the message's length as a varint of one or two bytes, then the
+//! message. A second length byte that is 0, that asks for a third, or that
+//! takes the length over the maximum, breaks the frame at once.
 
 use crate::protobuf::{WireError, encode_varint};
 

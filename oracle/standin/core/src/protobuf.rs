@@ -1,6 +1,6 @@
-//! Protobuf fields: a varint has at most ten bytes, the tenth at most 1, and
-//! may be longer than the shortest form; field numbers are 1 to 536,870,911;
-//! wire types 3, 4, 6 and 7 are malformed.
+//! Protobuf fields: varints of up to ten bytes that fit 64 bits, not always
+//! the shortest; fields numbered from 1 up to 536,870,911. Groups (wire types
+//! 3 and 4), 6 and 7 are malformed.
 
 pub const WIRE_VARINT: u8 = 0;
 const WIRE_FIXED64: u8 = 1;
