@@ -665,7 +665,11 @@ fn established(
             }
             return upgraded(c, ledger, conn, Effect::Nothing);
         }
-        Phase::Exchange { conn: at, stream, .. } => {
+        Phase::Exchange {
+            conn: at,
+            stream,
+            ..
+        } => {
             if relayed {
                 return quiet(c, ledger);
             }

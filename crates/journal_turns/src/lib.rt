@@ -510,7 +510,10 @@ fn make_call(line: &[u8], j: Journal, reply: &mut [u8], call: Line) -> Turn
         Line::Wrote { at, conn, stream } => return wrote_turn(j, at, conn, stream),
         Line::Down { conn, .. } => return down_turn(j, conn),
         Line::Dial {
-            conn, token, id, ..
+            conn,
+            token,
+            id,
+            ..
         } => return dial_turn(j, conn, token, id),
         Line::Forget { conn, .. } => return forget_turn(j, conn),
         Line::Attribute {
