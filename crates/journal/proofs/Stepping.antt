@@ -18,24 +18,26 @@ use Rattle.journal_text.specs.Texts.{lineText}
 use Rattle.journal.specs.Steps.{isLine, waitingAfter, Stepped, stepOf}
 
 module _ (s : Reading) (line : List ℕ) (j : Journal) (reply out : List ℕ) (waiting : ℕ) where
-  pub step-made : {a : Journal} {b x : List ℕ} {w q : ℕ} {W : Type 0} → isLine (s .failed) (s .ended) (s .used) ≡ true
+  pub step-made : {a : Journal} {b x : List ℕ} {w q : ℕ} {W R : Type 0} → isLine (s .failed) (s .ended) (s .used) ≡ true
       → w ≡ waitingAfter (length out) waiting
       → (a ≡ lineTurn j reply (take (s .used) line) (s .ended) .turn .journal)
       × ((b ≡ lineTurn j reply (take (s .used) line) (s .ended) .reply)
       × ((x ≡ printed out w (lineText j reply (take (s .used) line) (s .ended)))
       × ((q ≡ behind out w (lineText j reply (take (s .used) line) (s .ended))) × W)))
+      → R
       → (a ≡ stepOf s line j reply out waiting .journal)
       × ((b ≡ stepOf s line j reply out waiting .reply)
-      × ((x ≡ stepOf s line j reply out waiting .out) × (q ≡ stepOf s line j reply out waiting .waiting)))
+      × ((x ≡ stepOf s line j reply out waiting .out) × ((q ≡ stepOf s line j reply out waiting .waiting) × R)))
   unfolding stepOf
-  step-made e f g = rw (e, ← f) (g .0, (g .1 .0, (g .1 .1 .0, g .1 .1 .1 .0)))
+  step-made e f g r = rw (e, ← f) (g .0, (g .1 .0, (g .1 .1 .0, (g .1 .1 .1 .0, r))))
 
-  pub step-left : isLine (s .failed) (s .ended) (s .used) ≡ false
+  pub step-left : {R : Type 0} → isLine (s .failed) (s .ended) (s .used) ≡ false
+      → R
       → (j ≡ stepOf s line j reply out waiting .journal)
       × ((reply ≡ stepOf s line j reply out waiting .reply)
-      × ((out ≡ stepOf s line j reply out waiting .out) × (waiting ≡ stepOf s line j reply out waiting .waiting)))
+      × ((out ≡ stepOf s line j reply out waiting .out) × ((waiting ≡ stepOf s line j reply out waiting .waiting) × R)))
   unfolding stepOf
-  step-left e = rw e (refl, (refl, (refl, refl)))
+  step-left e r = rw e (refl, (refl, (refl, (refl, r))))
 
   room-within : (t : Bool) → leb (waiting + 4 * room) (length out) ≡ t → pick t waiting 0 ≤ length out
   room-within true e = omega (arith, leb-true (waiting + 4 * room) (length out) e)

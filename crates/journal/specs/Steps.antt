@@ -1,4 +1,4 @@
--- What the program makes of a line that it read (RULES.md, section 12). Which bytes are read no definition can say.
+-- What the program makes of a line that it read (RULES.md, sections 12.1 and 12.7). Which bytes are read no definition can say.
 use Prim.Native.Nat.{ℕ, _+_, _*_}
 use mathlib.Core.Bool.{Bool}
 use mathlib.Core.List.{List}

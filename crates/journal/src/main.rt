@@ -3,6 +3,7 @@ ghost use mathlib.Core.Path.{_≡_};
 ghost use Prim.Native.Nat.{_+_, _*_, _≤_};
 ghost use lib.Dec.{leb};
 ghost use lib.ListN.{length};
+ghost use Rattle.line_program.specs.Reads.{left, Read};
 ghost use Rattle.journal_prints.specs.Room.{room};
 ghost use Rattle.journal.specs.Steps.{isLine, waitingAfter, stepOf};
 use journal_turns::Journal;
@@ -82,6 +83,7 @@ fn take_step(
     ensures reply { λ r. ⌜ now (reply .exit) ≡ stepOf (r .reading) (now (line .exit)) j (now (reply .entry)) (now (out .entry)) waiting .reply ⌝ }
     ensures out { λ r. ⌜ now (out .exit) ≡ stepOf (r .reading) (now (line .exit)) j (now (reply .entry)) (now (out .entry)) waiting .out ⌝ }
     ensures waiting { λ r. ⌜ r .waiting ≡ stepOf (r .reading) (now (line .exit)) j (now (reply .entry)) (now (out .entry)) waiting .waiting ⌝ }
+    ensures read { λ r. ⌜ Read (now (line .entry)) 0 (left (now (block .entry)) from until) (now (block .exit)) (now (line .exit)) (r .reading) ⌝ }
 {
     let s = line_program::next_line(block, line, from, until);
     if is_line(s.failed, s.ended, s.used) {

@@ -1,9 +1,10 @@
 -- The worked example, computed from its text to what it prints. Assumes nothing.
 use mathlib.Core.Path.{_≡_, refl}
+use mathlib.Core.List.{[]}
 use Rattle.time.specs.Time.{plus}
 use Rattle.text.specs.Decimal.{digitsFrom, decimalOf, digitsOf}
 use Rattle.text.specs.Hexadecimal.{isHexadecimal, bytesOf, hexadecimal}
-use Rattle.text.specs.Words.{begins, isWord, lengthBefore}
+use Rattle.text.specs.Words.{ascii, begins, isWord, lengthBefore}
 use Rattle.fields.specs.Values.{maybeOf, pairOf}
 use Rattle.fields.specs.Fields.{valueAt, numberAt, choiceAt, maybeAt, pairAt, bytesAt}
 use Rattle.fields.specs.Line.{number, choice, maybe, pair, bytes, ends}
@@ -30,14 +31,18 @@ use Rattle.inbound.specs.Circuit.{inPhase, exchangingOf, isLive, openRound, tic
 use Rattle.inbound.specs.Input.{ownOf, targetsFrom, dataInput, exchangeInput, inputOf}
 use Rattle.journal_prints.specs.Outputs.{withCommas, targetsText}
 use Rattle.journal_text.specs.Texts.{firstOf, opened, lineText}
-use Rattle.journal_laws.specs.Journals.{linesText, opening, journalText}
-use Rattle.journal_laws.specs.Example.{settings, calls, printed}
+use Rattle.journal_laws.specs.Journals.{cut, linesText, opening, journalText}
+use Rattle.journal_laws.specs.Example.{input, printed}
 use Rattle.schedule.specs.Schedule as schedule
 use Rattle.journal_lines.specs.Lines as line
 use Rattle.journal_lines.specs.Parts as part
 use Rattle.journal_effects.specs.Effects as effects
 use Rattle.journal_turns.specs.Turns as turns
 
-pub example : journalText settings calls ≡ printed
-unfolding plus digitsFrom decimalOf digitsOf isHexadecimal bytesOf hexadecimal begins isWord lengthBefore maybeOf pairOf valueAt numberAt choiceAt maybeAt pairAt bytesAt number choice maybe pair bytes ends armed mayBegin oneMore begun withExchange ended windowEnd upgradeDue dueAt halfOf startOf upto instants countIf countTo ahead without timesOf dueOf openedOf schedule.windowOf frameFrom valueOf spanOf varintOf groups along listed fieldOf scan addressFields gathering syncFrame bigEndian hasForm parsed globalUnicast4 mayBeTarget count only selected bounded room once own padded tableOf such emptyLedger refusesPunches noMessage noTargets silence eventOf resetOf burstOf sendingOf answerOf quietOf broughtBy inPhase exchangingOf isLive openRound tickPunching inUse checkOf announced closing inExchange writeOf firstInput roundTrip punchingOf windowOf openWindow begunOf startedOf upOf tickOf ownOf targetsFrom dataInput exchangeInput inputOf line.timed line.settled line.heard line.answered line.connected line.settingsOf line.startOf line.upOf line.inputLine line.tickOf line.lineOf part.timesOf part.othersAt part.kindAt part.inputOf part.kinded part.inputAt part.answersAt part.connectionAt withCommas targetsText effects.linesText effects.noEffect effects.effectsText turns.newJournal turns.counted turns.withState turns.started turns.noEffects turns.silent turns.effectsOf turns.hostOf turns.startTurn turns.upTurn turns.inputTurn turns.tickTurn turns.turnOf turns.read turns.lineTurn firstOf opened lineText linesText opening journalText calls
+pub example : journalText input ≡ printed
+unfolding plus digitsFrom decimalOf digitsOf isHexadecimal bytesOf hexadecimal begins isWord lengthBefore maybeOf pairOf valueAt numberAt choiceAt maybeAt pairAt bytesAt number choice maybe pair bytes ends armed mayBegin oneMore begun withExchange ended windowEnd upgradeDue dueAt halfOf startOf upto instants countIf countTo ahead without timesOf dueOf openedOf schedule.windowOf frameFrom valueOf spanOf varintOf groups along listed fieldOf scan addressFields gathering syncFrame bigEndian hasForm parsed globalUnicast4 mayBeTarget count only selected bounded room once own padded tableOf such emptyLedger refusesPunches noMessage noTargets silence eventOf resetOf burstOf sendingOf answerOf quietOf broughtBy inPhase exchangingOf isLive openRound tickPunching inUse checkOf announced closing inExchange writeOf firstInput roundTrip punchingOf windowOf openWindow begunOf startedOf upOf tickOf ownOf targetsFrom dataInput exchangeInput inputOf line.timed line.settled line.heard line.answered line.connected line.settingsOf line.startOf line.upOf line.inputLine line.tickOf line.lineOf part.timesOf part.othersAt part.kindAt part.inputOf part.kinded part.inputAt part.answersAt part.connectionAt withCommas targetsText effects.linesText effects.noEffect effects.effectsText turns.newJournal turns.counted turns.withState turns.started turns.noEffects turns.silent turns.effectsOf turns.hostOf turns.startTurn turns.upTurn turns.inputTurn turns.tickTurn turns.turnOf turns.read turns.lineTurn firstOf opened lineText cut linesText opening journalText input
 example = refl
+
+pub nothing : journalText [] ≡ ascii "n=0 out=refused why=11\n"
+unfolding digitsOf firstOf cut opening journalText
+nothing = refl

@@ -1,3 +1,4 @@
 pub mod Refusals
 pub mod Counts
+pub mod Cutting
 pub mod Example

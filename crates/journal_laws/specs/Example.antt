@@ -1,20 +1,17 @@
--- The worked example (RULES.md, section 12.8): its lines, and what it prints.
+-- The worked example (RULES.md, section 12.8): its bytes, and what it prints.
 use Prim.Native.Nat.{ℕ}
-use mathlib.Core.List.{List, [], _∷_, _++_}
+use mathlib.Core.List.{List, _++_}
 use Rattle.text.specs.Words.{ascii}
 
-abbrev pub settings : List ℕ
-settings = ascii "handshake=1000 upgrade=10000 exchange=2000 punch=100 interval=40 payload=32 private=0 upgrades=1"
-
-unfoldable pub calls : List (List ℕ)
-calls =
-    ascii "do=start at=0 source=5 relay=9 circuit=7"
-    ∷ ascii "do=up at=10 peer=5 conn=7 via=circuit live=7 offer=7:4 pending=0 own=-"
-    ∷ ascii "do=input at=20 stream=4 kind=ready data=- live=7 offer=7:8 pending=0 own=-"
-    ∷ ascii "do=input at=60 stream=4 kind=data data=0f0864120b04c000000991020fa1cd03 live=7 offer=7:8 pending=0 own=-"
-    ∷ ascii "do=tick at=130 live=7 offer=7:8 own=-"
-    ∷ ascii "do=tick at=180 live=7 offer=7:8 own=-"
-    ∷ []
+unfoldable pub input : List ℕ
+input =
+    ascii "handshake=1000 upgrade=10000 exchange=2000 punch=100 interval=40 payload=32 private=0 upgrades=1\n"
+    ++ ascii "do=start at=0 source=5 relay=9 circuit=7\n"
+    ++ ascii "do=up at=10 peer=5 conn=7 via=circuit live=7 offer=7:4 pending=0 own=-\n"
+    ++ ascii "do=input at=20 stream=4 kind=ready data=- live=7 offer=7:8 pending=0 own=-\n"
+    ++ ascii "do=input at=60 stream=4 kind=data data=0f0864120b04c000000991020fa1cd03 live=7 offer=7:8 pending=0 own=-\n"
+    ++ ascii "do=tick at=130 live=7 offer=7:8 own=-\n"
+    ++ ascii "do=tick at=180 live=7 offer=7:8 own=-\n"
 
 abbrev pub printed : List ℕ
 printed =

@@ -1,23 +1,42 @@
--- What a whole journal prints (RULES.md, section 12), each of its lines with a line feed and none too long or cut short.
-use Prim.Native.Nat.{ℕ}
-use mathlib.Core.Bool.{true}
+-- What a whole journal prints (RULES.md, section 12): from the bytes of the input to those of the output.
+use Prim.Native.Nat.{ℕ, zero, suc}
+use mathlib.Core.Bool.{Bool, false}
 use mathlib.Core.List.{List, [], _∷_, _++_}
-use lib.ListN.{replicate}
+use lib.Dec.{eqb, ltb}
+use lib.ListN.{length, take, drop, replicate}
 use Rattle.prelude.specs.Choice.{pick}
+use Rattle.text.specs.Words.{lengthBefore}
 use Rattle.journal_lines.specs.declared.First.{First}
 use Rattle.journal_turns.specs.Turns.{lineTurn}
 use Rattle.journal_turns.specs.declared.Journal.{Journal}
 use Rattle.journal_text.specs.Texts.{firstOf, isGood, opened, openingText, lineText}
 
+-- the first n lines of an input, each without its line feed, and whether it has one (section 12.1): a line goes up to its line feed, the
+-- byte 10; bytes behind the last line feed are a line without one
+unfoldable pub cut : ℕ → List ℕ → List (List ℕ × Bool)
+cut zero input = []
+cut (suc n) input =
+    pick (eqb (length input) 0) []
+    ((take (lengthBefore 10 input) input, ltb (lengthBefore 10 input) (length input)) ∷ cut n (drop (suc (lengthBefore 10 input)) input))
+
+-- there are never more lines than bytes
+abbrev pub linesOf : List ℕ → List (List ℕ × Bool)
+linesOf input = cut (length input) input
+
 -- the lines behind the first, each on what the one before it left
-unfoldable pub linesText : Journal → List ℕ → List (List ℕ) → List ℕ
+unfoldable pub linesText : Journal → List ℕ → List (List ℕ × Bool) → List ℕ
 linesText j reply [] = []
-linesText j reply (line ∷ rest) =
-    lineText j reply line true ++ linesText (lineTurn j reply line true .turn .journal) (lineTurn j reply line true .reply) rest
+linesText j reply (l ∷ rest) =
+    lineText j reply (l .0) (l .1) ++ linesText (lineTurn j reply (l .0) (l .1) .turn .journal) (lineTurn j reply (l .0) (l .1) .reply) rest
 
 -- the reply buffer has 4,098 bytes, zero at first (section 12.5)
-unfoldable pub opening : First → List (List ℕ) → List ℕ
+unfoldable pub opening : First → List (List ℕ × Bool) → List ℕ
 opening f rest = pick (isGood f) (linesText (opened f) (replicate 4098 0) rest) (openingText f)
 
-unfoldable pub journalText : List ℕ → List (List ℕ) → List ℕ
-journalText first rest = opening (firstOf first true) rest
+-- an input without a line has no good first line
+abbrev pub textOf : List (List ℕ × Bool) → List ℕ
+textOf [] = opening (firstOf [] false) []
+textOf (first ∷ rest) = opening (firstOf (first .0) (first .1)) rest
+
+unfoldable pub journalText : List ℕ → List ℕ
+journalText input = textOf (linesOf input)

@@ -1,3 +1,3 @@
-pub mod Laws
 pub mod Journals
+pub mod Laws
 pub mod Example

@@ -1,8 +1,10 @@
 // Laws of whole journals, over the definitions that `journal_text` is proved to follow.
 ghost use mathlib.Core.Path.{_≡_};
-ghost use Rattle.journal_laws.specs.Laws.{RefusedChangesNothing, EveryLineCounts};
+ghost use mathlib.Core.List.{[]};
+ghost use Rattle.text.specs.Words.{ascii};
+ghost use Rattle.journal_laws.specs.Laws.{RefusedChangesNothing, EveryLineCounts, LineByLine, LongLinesAreOne};
 ghost use Rattle.journal_laws.specs.Journals.{journalText};
-ghost use Rattle.journal_laws.specs.Example.{settings, calls, printed};
+ghost use Rattle.journal_laws.specs.Example.{input, printed};
 
 // A refused line leaves circuit, ledger, settings and reply buffer as they were.
 pub fn refused_line_changes_nothing()
@@ -14,7 +16,18 @@ pub fn every_line_counts()
     ensures { λ _. ⌜ EveryLineCounts ⌝ }
 {}
 
-// The rule's worked example, byte by byte.
+// The lines of an input are the line up to its first line feed, and the lines behind that.
+pub fn line_by_line()
+    ensures { λ _. ⌜ LineByLine ⌝ }
+{}
+
+// Of a line that is too long, the part that a buffer of 32,768 bytes or more holds says all.
+pub fn long_lines_are_one()
+    ensures { λ _. ⌜ LongLinesAreOne ⌝ }
+{}
+
+// An input without a byte, and the rule's worked example, byte by byte.
 pub fn worked_example()
-    ensures { λ _. ⌜ journalText settings calls ≡ printed ⌝ }
+    ensures nothing { λ _. ⌜ journalText [] ≡ ascii "n=0 out=refused why=11\n" ⌝ }
+    ensures example { λ _. ⌜ journalText input ≡ printed ⌝ }
 {}

@@ -1,9 +1,10 @@
 // What programs that answer standard input line by line share: the next line read, and a text written. No contract can say which bytes
-// come in; these say what holds of all.
+// come in; these say what becomes of them.
 ghost use mathlib.Core.Path.{_≡_};
 ghost use mathlib.Core.Bool.{true};
 ghost use Prim.Native.Nat.{_≤_};
 ghost use lib.ListN.{length};
+ghost use Rattle.line_program.specs.Reads.{left, refilled, Read};
 use libc::STDIN_FILENO;
 use libc::STDOUT_FILENO;
 
@@ -20,7 +21,7 @@ pub struct Reading {
 
 // Reads a block.
 fn fill(block: &mut [u8], used: usize) -> Reading
-    ensures used { λ r. ⌜ r .used ≡ used ⌝ }
+    ensures result { λ r. ⌜ r ≡ refilled used (r .until) (r .failed) ⌝ }
     ensures block { λ r. ⌜ r .until ≤ length (now (block .entry)) ⌝ }
 {
     let got = libc::read(STDIN_FILENO, block);
@@ -40,6 +41,7 @@ fn read_on(block: &mut [u8], line: &mut [u8], s: Reading) -> Reading
     requires { ⌜ (s .used ≤ length (now line)) × (s .until ≤ length (now block)) ⌝ }
     ensures used { λ r. ⌜ r .used ≤ length (now (line .entry)) ⌝ }
     ensures block { λ r. ⌜ r .until ≤ length (now (block .entry)) ⌝ }
+    ensures read { λ r. ⌜ Read (now (line .entry)) (s .used) (left (now (block .entry)) (s .from) (s .until)) (now (block .exit)) (now (line .exit)) r ⌝ }
 {
     if s.until <= s.from {
         return fill(block, s.used);
@@ -61,6 +63,7 @@ fn read_on(block: &mut [u8], line: &mut [u8], s: Reading) -> Reading
 pub fn next_line(block: &mut [u8], line: &mut [u8], from: usize, until: usize) -> Reading
     ensures used { λ r. ⌜ r .used ≤ length (now (line .entry)) ⌝ }
     ensures block { λ r. ⌜ r .until ≤ length (now (block .entry)) ⌝ }
+    ensures read { λ r. ⌜ Read (now (line .entry)) 0 (left (now (block .entry)) from until) (now (block .exit)) (now (line .exit)) r ⌝ }
 {
     let stop = text::least(until, block.len());
     let mut s = Reading {

@@ -18,7 +18,7 @@ take-step-requires : tie.Need-take-step-requires Inv-loop μ-loop
 take-step-requires c κs = search needs
 
 loop-holds : tie.Need-loop-holds Inv-loop μ-loop
-loop-holds c = (refl, refl, refl, refl, step-within _ _ _ _ _ _ (c .before .before .before .before .before .before .before .before .take-step .ensures .1 .1 .1) (sym (c .before .before .before .before .before .before .before .before .take-step .kept .1 .1 .1 .0)) (omega arith))
+loop-holds c = (refl, refl, refl, refl, step-within _ _ _ _ _ _ (c .before .before .before .before .before .before .before .before .take-step .ensures .1 .1 .1 .0) (sym (c .before .before .before .before .before .before .before .before .take-step .kept .1 .1 .1 .0)) (omega arith))
 
 take-step-requires-2 : tie.Need-take-step-requires-2 Inv-loop μ-loop
 take-step-requires-2 c κs = search needs
@@ -30,7 +30,7 @@ loop-less : tie.Need-loop-less Inv-loop μ-loop
 loop-less c = omega (arith, c .before .before .before .before .before .before .before .before .before .before .before .before .before .before .before .before .loop-test .taken)
 
 loop-again : tie.Need-loop-again Inv-loop μ-loop
-loop-again c = (c .before .before .before .before .before .before .before .before .take-step2 .kept .0 ∙ c .before .before .before .before .before .before .before .before .before .before .before .before .before .before .before .before .before .loop .inv .0, c .before .before .before .before .before .before .before .before .take-step2 .kept .1 .0 ∙ c .before .before .before .before .before .before .before .before .before .before .before .before .before .before .before .before .before .loop .inv .1, c .before .before .before .before .before .before .before .before .take-step2 .kept .1 .1 .0 ∙ c .before .before .before .before .before .before .before .before .before .before .before .before .before .before .before .before .before .loop .inv .2, c .before .before .before .before .before .before .before .before .take-step2 .kept .1 .1 .1 .0 ∙ c .before .before .before .before .before .before .before .before .before .before .before .before .before .before .before .before .before .loop .inv .3, step-within _ _ _ _ _ _ (c .before .before .before .before .before .before .before .before .take-step2 .ensures .1 .1 .1) (c .before .before .before .before .before .before .before .before .before .before .before .before .before .before .before .before .before .loop .inv .3) (c .before .before .before .before .before .before .before .before .before .before .before .before .before .before .before .before .before .loop .inv .4))
+loop-again c = (c .before .before .before .before .before .before .before .before .take-step2 .kept .0 ∙ c .before .before .before .before .before .before .before .before .before .before .before .before .before .before .before .before .before .loop .inv .0, c .before .before .before .before .before .before .before .before .take-step2 .kept .1 .0 ∙ c .before .before .before .before .before .before .before .before .before .before .before .before .before .before .before .before .before .loop .inv .1, c .before .before .before .before .before .before .before .before .take-step2 .kept .1 .1 .0 ∙ c .before .before .before .before .before .before .before .before .before .before .before .before .before .before .before .before .before .loop .inv .2, c .before .before .before .before .before .before .before .before .take-step2 .kept .1 .1 .1 .0 ∙ c .before .before .before .before .before .before .before .before .before .before .before .before .before .before .before .before .before .loop .inv .3, step-within _ _ _ _ _ _ (c .before .before .before .before .before .before .before .before .take-step2 .ensures .1 .1 .1 .0) (c .before .before .before .before .before .before .before .before .before .before .before .before .before .before .before .before .before .loop .inv .3) (c .before .before .before .before .before .before .before .before .before .before .before .before .before .before .before .before .before .loop .inv .4))
 
 same-length : tie.Need-same-length Inv-loop μ-loop
 same-length c = c .before .before .before .loop .inv .0 ∙ c .before .before .before .before .before .before .before .before .before .before .before .before .take-step .kept .0

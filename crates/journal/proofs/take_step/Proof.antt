@@ -37,7 +37,7 @@ same-length-4 : tie.Need-same-length-4
 same-length-4 c = search needs
 
 returns : tie.Need-returns
-returns c = step-made _ _ _ _ _ _ (sym (c .before .before .before .before .before .before .before .before .before .before .before .before .is-line .ensures) ∙ c .before .before .before .before .before .before .before .before .before .before .before .if1 .taken) (c .before .before .before .before .before .before .before .before .before .make-room .ensures) (c .before .before .before .before .before .answer-line .ensures)
+returns c = step-made _ _ _ _ _ _ (sym (c .before .before .before .before .before .before .before .before .before .before .before .before .is-line .ensures) ∙ c .before .before .before .before .before .before .before .before .before .before .before .if1 .taken) (c .before .before .before .before .before .before .before .before .before .make-room .ensures) (c .before .before .before .before .before .answer-line .ensures) (c .before .before .before .before .before .before .before .before .before .before .before .before .before .before .before .before .before .next-line .ensures .1 .1)
 
 same-length-5 : tie.Need-same-length-5
 same-length-5 c = search needs
@@ -46,7 +46,7 @@ same-length-6 : tie.Need-same-length-6
 same-length-6 c = search needs
 
 returns-2 : tie.Need-returns-2
-returns-2 c = step-left _ _ _ _ _ _ (sym (c .before .is-line .ensures) ∙ c .if1 .left)
+returns-2 c = step-left _ _ _ _ _ _ (sym (c .before .is-line .ensures) ∙ c .if1 .left) (c .before .before .before .before .before .before .next-line .ensures .1 .1)
 
 pub take-step-spec : {M : Type 1} → statement M
 take-step-spec =

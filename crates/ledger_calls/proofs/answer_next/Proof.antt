@@ -47,7 +47,7 @@ same-length-7 : tie.Need-same-length-7
 same-length-7 c = search needs
 
 returns-2 : tie.Need-returns-2
-returns-2 c = c .before .before .before .before .before .before .before .before .before .before .before .before .before .before .before .before .before .before .before .before .before .before .next-line .ensures .1
+returns-2 c = c .before .before .before .before .before .before .before .before .before .before .before .before .before .before .before .before .before .before .before .before .before .before .next-line .ensures .1 .0
 
 same-length-8 : tie.Need-same-length-8
 same-length-8 c = search needs
@@ -65,7 +65,7 @@ same-length-12 : tie.Need-same-length-12
 same-length-12 c = search needs
 
 returns-3 : tie.Need-returns-3
-returns-3 c = c .before .before .before .before .before .before .before .before .before .before .before .before .before .before .before .before .before .before .before .before .before .before .next-line .ensures .1
+returns-3 c = c .before .before .before .before .before .before .before .before .before .before .before .before .before .before .before .before .before .before .before .before .before .before .next-line .ensures .1 .0
 
 pub answer-next-spec : {M : Type 1} → statement M
 answer-next-spec = tie.close (tie.spec next-line-requires same-length same-length-2 returns whole-length-requires slice-reshare-prefix-answer slice-aggregate-answer answer-requires print-requires same-length-3 same-length-4 same-length-5 same-length-6 same-length-7 returns-2 same-length-8 same-length-9 same-length-10 same-length-11 same-length-12 returns-3)
