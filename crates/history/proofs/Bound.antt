@@ -9,6 +9,7 @@ use native.Mathlib.Omega.{arith}
 use borrow.Author.Tests.{ltb-true}
 use lib.Dec.{ltb, eqb}
 use lib.ListN.{length, length-append}
+use Rattle.time.specs.Time.{last}
 use Rattle.prelude.specs.Choice.{pick, both}
 use Rattle.ids.specs.declared.PeerId.{PeerId}
 use Rattle.ids.specs.declared.ConnectionId.{ConnectionId}
@@ -26,10 +27,9 @@ use Rattle.inbound.specs.declared.StreamInput.the-variants as i
 use Rattle.inbound.specs.declared.ConnectWrite.{ConnectWrite}
 use Rattle.inbound.specs.declared.ConnectWrite.the-variants.{Unsent, Held, Sent}
 use Rattle.inbound.specs.Brought.{Brought, unfinished, failed, connect, broughtBy}
-use Rattle.inbound.specs.Circuit.{newOf}
 use Rattle.history.specs.Calls.{Call, up, input, tick, wrote, down, toEach, copies, refusals}
 use Rattle.history.specs.Book.{Window, Asking, Stage, handshaking, asking, within, over, Book, Who, fresh, current, windows, closed, isCircuit, begins, wanted, seen, tickIn, armed, upIn, isClosing, tripOf, opened, withCount, withConnect, replied, answeredBy, inputTo, inputIn, wroteTo, wroteIn, note, notes}
-use Rattle.history.specs.Demand3.{ofWindow, due, longest, windowsOf}
+use Rattle.history.specs.Demand3.{ofWindow, due, longest, most, begun, windowsOf}
 
 -- ---- each window has at most eight addresses
 
@@ -291,11 +291,15 @@ fine-bound s b f =
 
 pub bound : (source relay : PeerId) (circuit : ConnectionId) (s : Settings) (at : ℕ) (xs : List Call)
     → length (due s (windowsOf source relay circuit s at xs))
-    ≤ 24 * (1 + longest (windowsOf source relay circuit s at xs) / max (s .interval) 1)
+    ≤ most s (windowsOf source relay circuit s at xs)
 unfolding windowsOf
 bound source relay circuit s at xs =
-    fine-bound s (notes s who (fresh s at) xs (refusals (newOf source relay circuit s at) xs))
-    (notes-fine s who xs (refusals (newOf source relay circuit s at) xs) (fresh s at) (record { most = omega arith; room = omega arith; short = tt }))
+    fine-bound s (notes s who (fresh s at) xs (refusals (begun source relay circuit s at) xs))
+    (notes-fine s who xs (refusals (begun source relay circuit s at) xs) (fresh s at) (fresh-fine (ltb (last - at) (s .handshake))))
   where
+    fresh-fine : (t : Bool) → Fine (record { stage = pick t over (handshaking (at + s .handshake)); deadline = 0; rounds = 0; past = [] })
+    fresh-fine true = record { most = omega arith; room = omega arith; short = tt }
+    fresh-fine false = record { most = omega arith; room = omega arith; short = tt }
+
     who : Who
     who = record { source = source; circuit = circuit }

@@ -1,4 +1,4 @@
--- The worked example, computed.
+-- The worked example and a list with two rounds, computed.
 -- Assumes nothing.
 use mathlib.Core.Path.{_≡_, refl}
 use Rattle.time.specs.Time.{plus}
@@ -18,14 +18,26 @@ use Rattle.candidates.specs.Entries.{count, only}
 use Rattle.candidates.specs.Selection.{selected, bounded, room}
 use Rattle.rows.specs.Rows.{padded, tableOf, such}
 use Rattle.ledger.specs.Ledger.{emptyLedger, refusesPunches}
-use Rattle.inbound.specs.Answers.{noTargets, silence, eventOf, resetOf, burstOf, sendingOf, answerOf, quietOf}
+use Rattle.inbound.specs.Answers.{noTargets, silence, eventOf, resetOf, burstOf, sendingOf, answerOf, quietOf, refusedOf}
 use Rattle.inbound.specs.Brought.{broughtBy}
-use Rattle.inbound.specs.Circuit.{inPhase, exchangingOf, isLive, openRound, tickPunching, inUse, checkOf, announced, closing, inExchange, writeOf, firstInput, roundTrip, punchingOf, windowOf, openWindow, begunOf, upOf, tickOf}
+use Rattle.inbound.specs.Circuit.{inPhase, exchangingOf, isLive, openRound, tickPunching, inUse, checkOf, announced, closing, inExchange, writeOf, firstInput, roundTrip, punchingOf, windowOf, openWindow, begunOf, startedOf, upOf, tickOf}
 use Rattle.inbound.specs.Input.{ownOf, targetsFrom, dataInput, exchangeInput, inputOf}
-use Rattle.history.specs.Calls.{toEach, copies, stepOf}
-use Rattle.history.specs.Example.{buffer, calls, each, expected}
+use Rattle.schedule.specs.Readings.{counted}
+use Rattle.history.specs.Calls.{toEach, copies, stepOf, refusals}
+use Rattle.history.specs.Book.{note, notes}
+use Rattle.history.specs.Demand3.{due, windowsOf}
+use Rattle.history.specs.Example.{source, relay, circuit, settings, buffer, calls, each, expected}
+use Rattle.history.specs.TwoRounds as two
 use Rattle.history.specs.Example
 
 pub example : each Example.begun calls ≡ expected
 unfolding plus armed mayBegin oneMore begun withExchange ended windowEnd upgradeDue dueAt halfOf startOf upto instants countIf countTo ahead without timesOf dueOf openedOf schedule.windowOf frameFrom valueOf spanOf varintOf along listed fieldOf scan gathering bigEndian hasForm parsed globalUnicast4 mayBeTarget count only selected bounded room padded tableOf such emptyLedger refusesPunches noTargets silence eventOf resetOf burstOf sendingOf answerOf quietOf broughtBy inPhase exchangingOf isLive openRound tickPunching inUse checkOf announced closing inExchange writeOf firstInput roundTrip punchingOf windowOf openWindow begunOf upOf tickOf ownOf targetsFrom dataInput exchangeInput inputOf toEach copies stepOf buffer calls each
 example = refl
+
+pub two-rounds : each Example.begun two.calls ≡ two.expected
+unfolding plus armed mayBegin oneMore begun withExchange ended windowEnd upgradeDue dueAt halfOf startOf upto instants countIf countTo ahead without timesOf dueOf openedOf schedule.windowOf frameFrom valueOf spanOf varintOf along listed fieldOf scan gathering bigEndian hasForm parsed globalUnicast4 mayBeTarget count only selected bounded room padded tableOf such emptyLedger refusesPunches noTargets silence eventOf resetOf burstOf sendingOf answerOf quietOf broughtBy inPhase exchangingOf isLive openRound tickPunching inUse checkOf announced closing inExchange writeOf firstInput roundTrip punchingOf windowOf openWindow begunOf upOf tickOf ownOf targetsFrom dataInput exchangeInput inputOf toEach copies stepOf buffer refusedOf two.calls each
+two-rounds = refl
+
+pub two-windows : due settings (windowsOf source relay circuit settings 0 two.calls) ≡ two.all
+unfolding plus armed mayBegin oneMore begun withExchange ended windowEnd upgradeDue dueAt halfOf startOf upto instants countIf countTo ahead without timesOf dueOf openedOf schedule.windowOf frameFrom valueOf spanOf varintOf along listed fieldOf scan gathering bigEndian hasForm parsed globalUnicast4 mayBeTarget count only selected bounded room padded tableOf such emptyLedger refusesPunches noTargets silence eventOf resetOf burstOf sendingOf answerOf quietOf broughtBy inPhase exchangingOf isLive openRound tickPunching inUse checkOf announced closing inExchange writeOf firstInput roundTrip punchingOf windowOf openWindow begunOf upOf tickOf ownOf targetsFrom dataInput exchangeInput inputOf toEach copies stepOf buffer refusedOf startedOf refusals note notes counted due windowsOf two.calls
+two-windows = refl

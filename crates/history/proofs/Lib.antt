@@ -8,4 +8,5 @@ pub mod Input
 pub mod Run
 pub mod Bound
 pub mod Refusals
+pub mod TurnedBack
 pub mod Example

@@ -1,15 +1,16 @@
 -- Every list of calls: circuit and book go on together from call to call.
 -- Assumes nothing.
-use mathlib.Core.Path.{_≡_, refl, sym, _∙_, subst}
+use mathlib.Core.Path.{_≡_, refl, sym, ap, _∙_, subst}
 use mathlib.Core.Bool.{Bool, true, false}
 use mathlib.Core.List.{List, [], _∷_, _++_, append-nil, append-assoc}
-use Prim.Native.Nat.{ℕ, _+_}
+use Prim.Native.Nat.{ℕ, _+_, _-_}
 use lib.Dec.{ltb}
 use lib.ListN.{length}
 use Rattle.prelude.specs.Choice.{pick}
+use Rattle.time.specs.Time.{last}
 use Rattle.ids.specs.declared.PeerId.{PeerId}
 use Rattle.ids.specs.declared.ConnectionId.{ConnectionId}
-use Rattle.refusal.specs.declared.Refusal.the-variants.{ReplyBufferTooShort}
+use Rattle.refusal.specs.declared.Refusal.the-variants.{ReplyBufferTooShort, HandshakeTooLate}
 use Rattle.budget.specs.declared.UpgradeBudget.{UpgradeBudget}
 use Rattle.candidates.specs.declared.Chosen.{Chosen}
 use Rattle.initiator.specs.declared.Framed.{Framed}
@@ -17,18 +18,21 @@ use Rattle.ledger.specs.declared.PathLedger.{PathLedger}
 use Rattle.inbound.specs.declared.Settings.{Settings}
 use Rattle.inbound.specs.declared.InboundCircuit.{InboundCircuit}
 use Rattle.inbound.specs.declared.Phase.{Phase}
+use Rattle.inbound.specs.declared.Phase.the-variants.{Done}
+use Rattle.inbound.specs.declared.Started.{Started}
+use Rattle.inbound.specs.declared.Outcome.the-variants as outcome
 use Rattle.inbound.specs.declared.Check.{Check}
 use Rattle.inbound.specs.declared.Check.the-variants.{Passed, Refused}
 use Rattle.inbound.specs.declared.Answer.{Answer}
 use Rattle.inbound.specs.Answers.{refusedOf}
-use Rattle.inbound.specs.Circuit.{checkOf, unless, begunOf, newOf, upOf, tickOf, wroteOf}
-use Rattle.inbound.specs.Input.{Done, inputOf}
+use Rattle.inbound.specs.Circuit.{checkOf, unless, begunOf, newOf, startedOf, upOf, tickOf, wroteOf}
+use Rattle.inbound.specs.Input.{inputOf}
 use Rattle.inbound.specs.Input as input
 use Rattle.history.specs.Calls.{Call, up, tick, wrote, down, answered, stepOf, datagrams, refusals}
 use Rattle.history.specs.Calls as call
-use Rattle.history.specs.Book.{Book, fresh, windows, note, notes}
-use Rattle.history.specs.Demand3.{due, windowsOf}
-use Rattle.history.proofs.Relation.{Begun, whose, circuitOf, Together, in-handshake, Rel, Keeps, refused-keeps}
+use Rattle.history.specs.Book.{Window, handshaking, over, Book, fresh, current, windows, note, notes}
+use Rattle.history.specs.Demand3.{due, begun, windowsOf}
+use Rattle.history.proofs.Relation.{Begun, whose, circuitOf, Together, in-handshake, at-end, Rel, Keeps, refused-keeps}
 use Rattle.history.proofs.Tick.{tick-keeps}
 use Rattle.history.proofs.Up.{up-keeps, wrote-keeps, down-keeps}
 use Rattle.history.proofs.Input.{input-keeps}
@@ -39,11 +43,11 @@ checked : (k : Begun) (b b′ : Book) (c : InboundCircuit) (l : PathLedger) (a :
 checked k b b′ c l a r h Passed = h
 checked k b b′ c l a r h (Refused why) = refused-keeps k b b′ c l why r
 
-checked-input : (k : Begun) (b b′ : Book) (c : InboundCircuit) (l : PathLedger) (buffer : List ℕ) (d : Done) → Rel k c b
+checked-input : (k : Begun) (b b′ : Book) (c : InboundCircuit) (l : PathLedger) (buffer : List ℕ) (d : input.Done) → Rel k c b
     → Keeps k b (answered (d .answer)) b′ → (short : Bool) (y : Check)
     → Keeps k b
     (answered
-    (pick {A = Done} short (record { answer = refusedOf c l ReplyBufferTooShort; buffer = buffer }) (input.unless c l buffer d y) .answer))
+    (pick {A = input.Done} short (record { answer = refusedOf c l ReplyBufferTooShort; buffer = buffer }) (input.unless c l buffer d y) .answer))
     b′
 checked-input k b b′ c l buffer d r h true y = refused-keeps k b b′ c l ReplyBufferTooShort r
 checked-input k b b′ c l buffer d r h false Passed = h
@@ -84,9 +88,28 @@ run-same k (x ∷ xs) c b r =
     sym (append-assoc (due (k .settings) (windows b)) (stepOf c x .sent) (datagrams (stepOf c x .circuit) xs))
     ∙ rw (t .gains) (run-same k xs (stepOf c x .circuit) (pick (stepOf c x .refused) b (note (k .settings) (whose k) b x)) (t .rel))
 
+-- a circuit has no window at first
+no-window : (s : Settings) (at : ℕ) → windows (fresh s at) ≡ []
+no-window s at = go (ltb (last - at) (s .handshake))
+  where
+    go : (t : Bool) → current (pick t over (handshaking (at + s .handshake))) ≡ []
+    go true = refl
+    go false = refl
+
 pub same : (source relay : PeerId) (circuit : ConnectionId) (s : Settings) (at : ℕ) (xs : List Call)
-    → datagrams (newOf source relay circuit s at) xs ≡ due s (windowsOf source relay circuit s at xs)
-unfolding windowsOf due begunOf
+    → datagrams (begun source relay circuit s at) xs ≡ due s (windowsOf source relay circuit s at xs)
+unfolding windowsOf due begunOf startedOf
 same source relay circuit s at xs =
-    run-same (record { source = source; relay = relay; circuit = circuit; settings = s }) xs (newOf source relay circuit s at) (fresh s at)
-    (record { shape = refl; together = in-handshake (at + s .handshake) })
+    ap (λ (ws : List Window). due s ws ++ datagrams (begun source relay circuit s at) xs) (sym (no-window s at))
+    ∙ run-same k xs (begun source relay circuit s at) (fresh s at) (go (ltb (last - at) (s .handshake)))
+  where
+    k : Begun
+    k = record { source = source; relay = relay; circuit = circuit; settings = s }
+
+    go : (t : Bool)
+        → Rel k
+        (pick {A = Started} t (record { circuit = begunOf source relay circuit s (Done false); outcome = outcome.Refused HandshakeTooLate })
+        (record { circuit = newOf source relay circuit s at; outcome = outcome.Accepted }) .circuit)
+        (record { stage = pick t over (handshaking (at + s .handshake)); deadline = 0; rounds = 0; past = [] })
+    go true = record { shape = refl; together = at-end false }
+    go false = record { shape = refl; together = in-handshake (at + s .handshake) }

@@ -1,12 +1,12 @@
 -- The book of demand 3: a plain machine that is fed the settings, the calls' arguments and which calls were refused. It takes the
 -- steps of RULES.md, section 11, and keeps of each window the list, when it starts and ends, the round trip and the largest reading. It
--- sends nothing and counts nothing.
+-- sends nothing and counts no instant.
 use Prim.Native.Nat.{ℕ, _+_, _-_, min}
 use mathlib.Core.Bool.{Bool, true, false}
 use mathlib.Core.List.{List, [], _∷_, _++_}
 use lib.Dec.{ltb, eqb}
 use Rattle.prelude.specs.Choice.{pick, both}
-use Rattle.time.specs.Time.{plus}
+use Rattle.time.specs.Time.{last, plus}
 use Rattle.schedule.specs.Instants.{startOf}
 use Rattle.schedule.specs.Readings.{Largest, none, larger}
 use Rattle.ids.specs.declared.ConnectionId.{ConnectionId}
@@ -63,9 +63,10 @@ pub record Who : Type 0 where
 
 -- ---- steps
 
--- a new circuit: the handshake's end is known, nothing else
+-- a new circuit: the handshake's end is known, nothing else; where its start is refused (section 11.3) it is Done
 abbrev pub fresh : Settings → ℕ → Book
-fresh s at = record { stage = handshaking (at + s .handshake); deadline = 0; rounds = 0; past = [] }
+fresh s at =
+    record { stage = pick (ltb (last - at) (s .handshake)) over (handshaking (at + s .handshake)); deadline = 0; rounds = 0; past = [] }
 
 abbrev pub inStage : Book → Stage → Book
 inStage b g = record { stage = g; deadline = b .deadline; rounds = b .rounds; past = b .past }

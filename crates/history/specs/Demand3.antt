@@ -7,7 +7,8 @@ use Rattle.schedule.specs.Readings.{counted}
 use Rattle.ids.specs.declared.PeerId.{PeerId}
 use Rattle.ids.specs.declared.ConnectionId.{ConnectionId}
 use Rattle.inbound.specs.declared.Settings.{Settings}
-use Rattle.inbound.specs.Circuit.{newOf}
+use Rattle.inbound.specs.declared.InboundCircuit.{InboundCircuit}
+use Rattle.inbound.specs.Circuit.{startedOf}
 use Rattle.history.specs.Calls.{Call, Datagram, toEach, copies, datagrams, refusals}
 use Rattle.history.specs.Book.{Window, fresh, windows, notes}
 
@@ -26,16 +27,21 @@ unfoldable pub longest : List Window → ℕ
 longest [] = 0
 longest (w ∷ ws) = max (w .end - w .start) (longest ws)
 
+-- never more datagrams than this; the interval 0 counts as 1
+abbrev pub most : Settings → List Window → ℕ
+most s ws = 24 * (1 + longest ws / max (s .interval) 1)
+
+-- the circuit that a start hands back, refused or not
+abbrev pub begun : PeerId → PeerId → ConnectionId → Settings → ℕ → InboundCircuit
+begun source relay circuit s at = startedOf source relay circuit s at .circuit
+
 -- the windows that the book finds in the calls on a new circuit; besides the calls it is told which of them were refused
 unfoldable pub windowsOf : PeerId → PeerId → ConnectionId → Settings → ℕ → List Call → List Window
 windowsOf source relay circuit s at calls =
     windows
-    (notes s (record { source = source; circuit = circuit }) (fresh s at) calls (refusals (newOf source relay circuit s at) calls))
+    (notes s (record { source = source; circuit = circuit }) (fresh s at) calls (refusals (begun source relay circuit s at) calls))
 
 pub record Demand3 (source relay : PeerId) (circuit : ConnectionId) (s : Settings) (at : ℕ) (calls : List Call) : Type 0 where
   -- what is sent, each burst written out, is this and nothing else
-  pub same : datagrams (newOf source relay circuit s at) calls ≡ due s (windowsOf source relay circuit s at calls)
-  -- the interval 0 counts as 1
-  pub bound :
-      length (datagrams (newOf source relay circuit s at) calls)
-      ≤ 24 * (1 + longest (windowsOf source relay circuit s at calls) / max (s .interval) 1)
+  pub same : datagrams (begun source relay circuit s at) calls ≡ due s (windowsOf source relay circuit s at calls)
+  pub bound : length (datagrams (begun source relay circuit s at) calls) ≤ most s (windowsOf source relay circuit s at calls)

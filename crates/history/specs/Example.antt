@@ -1,4 +1,4 @@
--- The worked example of RULES.md, section 12: its lines as calls.
+-- The worked example (RULES.md, section 12.8): its lines as calls.
 use Prim.Native.Nat.{ℕ}
 use mathlib.Core.Bool.{true, false}
 use mathlib.Core.List.{List, [], _∷_}

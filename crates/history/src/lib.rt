@@ -1,4 +1,4 @@
-// Demand 3: one circuit, from its beginning, after every list of its calls.
+// What a circuit sends and refuses over any list of its calls, from its beginning on.
 ghost use mathlib.Core.Path.{_≡_};
 ghost use mathlib.Core.Bool.{true};
 ghost use mathlib.Core.List.{List};
@@ -9,8 +9,10 @@ ghost use Rattle.inbound.specs.declared.InboundCircuit.{InboundCircuit};
 ghost use Rattle.inbound.specs.declared.Settings.{Settings};
 ghost use Rattle.history.specs.Calls.{Call, stepOf};
 ghost use Rattle.history.specs.Refusals.{ChangesNothing};
-ghost use Rattle.history.specs.Demand3.{Demand3};
-ghost use Rattle.history.specs.Example.{begun, calls, each, expected};
+ghost use Rattle.history.specs.Numbers.{refusedWith, answeredWith};
+ghost use Rattle.history.specs.Demand3.{Demand3, due, windowsOf};
+ghost use Rattle.history.specs.Example.{source, relay, circuit, settings, begun, calls, each, expected};
+ghost use Rattle.history.specs.TwoRounds as two;
 
 // The datagrams of all answers are those of the book's windows, and no more than the bound.
 pub fn demand_3()
@@ -22,7 +24,18 @@ pub fn refused_changes_nothing()
     ensures { λ _. ⌜ ((c : InboundCircuit) (call : Call) → stepOf c call .refused ≡ true → ChangesNothing c call) ⌝ }
 {}
 
+// Any circuit refuses a call with the number that the rule gives, and only there.
+pub fn refused_by_the_rule()
+    ensures { λ _. ⌜ ((c : InboundCircuit) (call : Call) → answeredWith c call ≡ refusedWith c call) ⌝ }
+{}
+
 // The datagrams of each answer of the worked example.
 pub fn worked_example()
     ensures { λ _. ⌜ each begun calls ≡ expected ⌝ }
+{}
+
+// The datagrams of each answer of a list with two rounds, and those of its book's windows.
+pub fn two_rounds()
+    ensures answers { λ _. ⌜ each begun two.calls ≡ two.expected ⌝ }
+    ensures windows { λ _. ⌜ due settings (windowsOf source relay circuit settings 0 two.calls) ≡ two.all ⌝ }
 {}

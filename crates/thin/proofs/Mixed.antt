@@ -8,7 +8,7 @@ use Rattle.ids.specs.declared.PeerId.{PeerId}
 use Rattle.ids.specs.declared.ConnectionId.{ConnectionId}
 use Rattle.inbound.specs.declared.InboundCircuit.{InboundCircuit}
 use Rattle.inbound.specs.declared.Settings.{Settings}
-use Rattle.inbound.specs.Circuit.{newOf}
+use Rattle.history.specs.Demand3.{begun}
 use Rattle.history.specs.Calls.{stepOf, datagrams, refusals}
 use Rattle.history.proofs.Run as run
 use Rattle.history.proofs.Bound as count
@@ -39,7 +39,7 @@ unchanged c m h =
 
 pub demand-mixed : (source relay : PeerId) (circuit : ConnectionId) (s : Settings) (at : ℕ) (calls : List Mixed) → Demand3Mixed source relay circuit s at calls
 demand-mixed source relay circuit s at calls =
-    let e = as-made calls (newOf source relay circuit s at) .same-sent in
+    let e = as-made calls (begun source relay circuit s at) .same-sent in
     record {
       same = rw e (run.same source relay circuit s at (madeAll calls));
       bound = rw (e, run.same source relay circuit s at (madeAll calls)) (count.bound source relay circuit s at (madeAll calls));

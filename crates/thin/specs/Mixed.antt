@@ -1,6 +1,6 @@
--- Lists of calls among which some are thin (RULES.md, section 11.11): a thin call counts as the call that it makes.
+-- Lists of calls among which some are thin (RULES.md, section 11.11).
 use mathlib.Core.Path.{_≡_}
-use Prim.Native.Nat.{ℕ, _+_, _*_, _/_, _≤_, max}
+use Prim.Native.Nat.{ℕ, _≤_}
 use mathlib.Core.Bool.{Bool, false}
 use mathlib.Core.List.{List, [], _∷_, _++_}
 use lib.ListN.{length}
@@ -12,9 +12,9 @@ use Rattle.inbound.specs.declared.InboundCircuit.{InboundCircuit}
 use Rattle.inbound.specs.declared.Settings.{Settings}
 use Rattle.inbound.specs.declared.Host.{Host}
 use Rattle.inbound.specs.declared.Answer.{Answer}
-use Rattle.inbound.specs.Circuit.{newOf, tickOf, wroteOf}
+use Rattle.inbound.specs.Circuit.{tickOf, wroteOf}
 use Rattle.history.specs.Calls.{Call, tick, wrote, Datagram, Step, answered, stepOf, datagrams, refusals}
-use Rattle.history.specs.Demand3.{due, longest, windowsOf}
+use Rattle.history.specs.Demand3.{due, most, begun, windowsOf}
 
 -- a call by value, or a thin call
 pub data Mixed : Type 0 where
@@ -75,7 +75,5 @@ pub record Unchanged (c : InboundCircuit) (call : Mixed) : Type 0 where
 
 -- demand 3 of such a list
 pub record Demand3Mixed (source relay : PeerId) (circuit : ConnectionId) (s : Settings) (at : ℕ) (calls : List Mixed) : Type 0 where
-  pub same : sent (newOf source relay circuit s at) calls ≡ due s (windowsOf source relay circuit s at (madeAll calls))
-  pub bound :
-      length (sent (newOf source relay circuit s at) calls)
-      ≤ 24 * (1 + longest (windowsOf source relay circuit s at (madeAll calls)) / max (s .interval) 1)
+  pub same : sent (begun source relay circuit s at) calls ≡ due s (windowsOf source relay circuit s at (madeAll calls))
+  pub bound : length (sent (begun source relay circuit s at) calls) ≤ most s (windowsOf source relay circuit s at (madeAll calls))

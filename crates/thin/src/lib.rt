@@ -1,4 +1,4 @@
-// A circuit lent to be changed: each call here takes it out, makes the call by value, and puts the circuit that this leaves in its place.
+// Calls on a circuit behind `&mut`: each takes it out, makes the call by value, and stores the circuit that this leaves.
 use ids::ConnectionId;
 use ids::StreamId;
 use inbound::Answer;
@@ -38,7 +38,7 @@ pub fn on_write_completed(
     *circuit = left;
 }
 
-// A thin call counts as the call that it makes: on any circuit a list leaves and sends what those calls leave and send.
+// On any circuit a list with thin calls leaves and sends what the calls that they make leave and send.
 pub fn thin_calls_count()
     ensures { λ _. ⌜ ((c : InboundCircuit) (calls : List Mixed) → AsMade c calls) ⌝ }
 {}
