@@ -9,7 +9,7 @@ ghost use Rattle.text.specs.Decimal.{most, decimal};
 ghost use Rattle.text.specs.Hexadecimal.{bytesText};
 ghost use Rattle.text.specs.Printed.{printed, behind};
 ghost use Rattle.fields.specs.Values.{maybeOf, pairOf};
-ghost use Rattle.fields.specs.Fields.{valueAt, numberAt, choiceAt, maybeAt, pairAt, bytesAt};
+ghost use Rattle.fields.specs.Fields.{keyed, valueAt, numberAt, choiceAt, maybeAt, pairAt, bytesAt};
 use text::Number;
 
 // Where a value stands in the line.
@@ -211,8 +211,8 @@ pub fn bytes_at(line: &[u8], key: &[u8], at: usize) -> BytesField
 
 // A key and a number.
 pub fn put_number(key: &[u8], v: u64, out: &mut [u8], at: usize) -> usize
-    ensures bytes { λ r. ⌜ now (out .exit) ≡ printed (now (out .entry)) at (now (key .entry) ++ decimal v) ⌝ }
-    ensures place { λ r. ⌜ r ≡ behind (now (out .entry)) at (now (key .entry) ++ decimal v) ⌝ }
+    ensures bytes { λ r. ⌜ now (out .exit) ≡ printed (now (out .entry)) at (keyed (now (key .entry)) v) ⌝ }
+    ensures place { λ r. ⌜ r ≡ behind (now (out .entry)) at (keyed (now (key .entry)) v) ⌝ }
 {
     let p = text::put_text(key, out, at);
     text::put_decimal(v, out, p)
@@ -233,5 +233,5 @@ pub fn number_round_trip()
         → drop at line ≡ key ++ decimal v ++ rest
         → numberAt line key at ≡ NumberField.At v (at + length key + length (decimal v))) ⌝ }
     ensures only { λ r. ⌜ ((line key : List ℕ) (at v next : ℕ) → numberAt line key at ≡ NumberField.At v next
-        → drop at line ≡ key ++ decimal v ++ drop next line) ⌝ }
+        → (drop at line ≡ key ++ decimal v ++ drop next line) × (lengthBefore 32 (drop next line) ≡ 0)) ⌝ }
 {}

@@ -6,12 +6,12 @@ use native.Mathlib.Omega.{arith}
 use lib.ListN.{length, drop, length-drop}
 use Rattle.text.specs.Words.{ascii, begins, lengthBefore}
 use Rattle.text.specs.Decimal.{most}
-use Rattle.fields.specs.Fields.{numberAt}
+use Rattle.fields.specs.Fields.{keyed, numberAt}
 use Rattle.fields.specs.Line.{number, ends}
 use Rattle.fields.proofs.Chain.{number-good, at-end}
 use Rattle.fields.proofs.NumberText.{field-read, field-rest, field-within}
 use Rattle.journal_lines.specs.Lines.{startOf, wroteOf, downOf, dialOf, forgetOf, lineOf}
-use Rattle.journal_lines.specs.Texts.{keyed, startText, wroteText, downText, dialText, forgetText, StartIsRead, WroteIsRead, DownIsRead, DialIsRead, ForgetIsRead}
+use Rattle.journal_lines.specs.Texts.{startText, wroteText, downText, dialText, forgetText, StartIsRead, WroteIsRead, DownIsRead, DialIsRead, ForgetIsRead}
 use Rattle.journal_lines.specs.declared.Line.{Line}
 use Rattle.journal_lines.specs.declared.Line.the-variants.{Unknown}
 

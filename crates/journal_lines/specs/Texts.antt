@@ -3,13 +3,10 @@ use Prim.Native.Nat.{ℕ, _≤_}
 use mathlib.Core.Path.{_≡_}
 use mathlib.Core.List.{List, _++_}
 use Rattle.text.specs.Words.{ascii}
-use Rattle.text.specs.Decimal.{most, decimal}
+use Rattle.text.specs.Decimal.{most}
+use Rattle.fields.specs.Fields.{keyed}
 use Rattle.journal_lines.specs.Lines.{lineOf}
 use Rattle.journal_lines.specs.declared.Line.the-variants.{Start, Wrote, Down, Dial, Forget}
-
--- a key and a number
-abbrev pub keyed : List ℕ → ℕ → List ℕ
-keyed key v = key ++ decimal v
 
 abbrev pub startText : ℕ → ℕ → ℕ → ℕ → List ℕ
 startText at source relay circuit =

@@ -4,6 +4,7 @@ use mathlib.Core.List.{List, [], _∷_, _++_}
 use Rattle.text.specs.Words.{ascii}
 use Rattle.text.specs.Decimal.{decimal}
 use Rattle.text.specs.Hexadecimal.{hexadecimal, bytesText}
+use Rattle.fields.specs.Fields.{keyed}
 use Rattle.wire.specs.Lists.{entries}
 use Rattle.refusal.specs.Number.{numberOf}
 use Rattle.refusal.specs.declared.Refusal.{Refusal}
@@ -17,10 +18,6 @@ use Rattle.path.specs.declared.FoundPath.{FoundPath}
 use Rattle.path.specs.declared.Path.the-variants as path
 use Rattle.path.specs.declared.Owner.the-variants as owner
 use Rattle.path.specs.declared.FoundPath.the-variants as found
-
--- a key and a number
-abbrev pub keyed : List ℕ → ℕ → List ℕ
-keyed key v = key ++ decimal v
 
 abbrev pub noneText : ℕ → List ℕ
 noneText n = keyed (ascii "n=") n ++ ascii " out=none\n"

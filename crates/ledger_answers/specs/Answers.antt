@@ -7,6 +7,7 @@ use lib.Dec.{eqb}
 use Rattle.prelude.specs.Choice.{pick}
 use Rattle.text.specs.Words.{ascii}
 use Rattle.text.specs.Decimal.{decimal}
+use Rattle.fields.specs.Fields.{keyed}
 use Rattle.refusal.specs.Number.{numberOf}
 use Rattle.refusal.specs.declared.Refusal.{Refusal}
 use Rattle.ids.specs.declared.NatToken.{NatToken}
@@ -29,10 +30,6 @@ use Rattle.dials.specs.declared.Connections.{Connections}
 use Rattle.ledger.specs.declared.PathLedger.{PathLedger}
 use Rattle.ledger_answers.specs.declared.Said.{Said}
 use Rattle.ledger_answers.specs.declared.Said.the-variants.{Done, Refused, Nothing, Dial as SaidDial, Unnamed, Name, Upgrade, Yes, At, Ledger, Bad}
-
--- a key and a number
-abbrev pub keyed : List ℕ → ℕ → List ℕ
-keyed key v = key ++ decimal v
 
 abbrev pub ownerText : Owner → List ℕ
 ownerText (owner.Attempt id) = decimal (id .0)

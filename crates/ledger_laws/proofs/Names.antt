@@ -209,6 +209,19 @@ other-window l conn peer other n circuit claim until now =
     ∙ ap (λ (rs : List Row). recorded k conn (judged circuit (dialAt conn rs) claim (windowOpen peer now (windowsOf l))) .answer) (expect-dials l other until)
     ∙ same-answer k l conn (expect-paths l other until) (judged circuit (dialAt conn (dialsOf l)) claim (windowOpen peer now (windowsOf l)))
 
+-- a window of another peer that is closed
+pub other-closed : (l : PathLedger) → length (windowsOf l) ≤ 64 → (conn : ConnectionId) (peer other : PeerId) → (peer .0 ≡ other .0 → ⊥) → (circuit : Bool) (claim : Claim) (now : ℕ)
+    → attributed (endPunches l other) conn peer circuit claim now .answer ≡ attributed l conn peer circuit claim now .answer
+unfolding attributed judgedBy endPunches windowOpen endAt
+other-closed l h conn peer other n circuit claim now =
+    let k = endPunches l other in
+    let r : rowsOf (tableOf (without (other .0) (windowsOf l))) ≡ without (other .0) (windowsOf l) = rows-all (without (other .0) (windowsOf l)) (omega (arith, such-≤ (keepsRow (Other (other .0))) (windowsOf l))) in
+    let w : windowOpen peer now (rowsOf (tableOf (without (other .0) (windowsOf l)))) ≡ windowOpen peer now (windowsOf l) =
+    rw (r, find-without-other (peer .0) (other .0) n (windowsOf l))
+    in
+    ap (λ (t : Bool). recorded k conn (judged circuit (dialAt conn (dialsOf l)) claim t) .answer) w
+    ∙ same-answer k l conn refl (judged circuit (dialAt conn (dialsOf l)) claim (windowOpen peer now (windowsOf l)))
+
 -- ---- over lists of calls
 table-64 : (rs : List Row) → length (rowsOf (tableOf rs)) ≤ 64
 table-64 rs = rw (rows-tableOf rs) (length-first 64 rs)

@@ -21,7 +21,7 @@ ghost use Rattle.entries.specs.Entries.{dialAt, pathAt, windowOpen};
 ghost use Rattle.ledger.specs.declared.PathLedger.{PathLedger};
 ghost use Rattle.ledger.specs.declared.Answer.the-variants.{Path as Named, Refused as NotNamed};
 ghost use Rattle.ledger.specs.declared.Outcome.the-variants.{Refused};
-ghost use Rattle.ledger.specs.Ledger.{emptyLedger, dialsOf, windowsOf, pathsOf, dialStarted, expectPunches, ticked, judgedBy, attributed, forgotten};
+ghost use Rattle.ledger.specs.Ledger.{emptyLedger, dialsOf, windowsOf, pathsOf, dialStarted, expectPunches, endPunches, ticked, judgedBy, attributed, forgotten};
 ghost use Rattle.ledger_laws.specs.Calls.{Call, afterAll};
 ghost use Rattle.ledger_laws.specs.Laws.{InOrder, Why, In, sparesAll, Needs65};
 
@@ -40,9 +40,10 @@ pub fn name_is_kept()
     ensures { λ r. ⌜ ((l : PathLedger) → length (pathsOf l) ≤ 64 → (conn : ConnectionId) (calls : List Call) → sparesAll conn calls ≡ true → pathAt conn (pathsOf (afterAll l calls)) ≡ pathAt conn (pathsOf l)) ⌝ }
 {}
 
-// A window of one peer changes no answer for a connection of another.
+// Opening or closing a window of one peer changes no answer for a connection of another.
 pub fn window_is_its_peers()
-    ensures { λ r. ⌜ ((l : PathLedger) (conn : ConnectionId) (peer other : PeerId) → (peer .0 ≡ other .0 → ⊥) → (circuit : Bool) (claim : Claim) (until now : ℕ) → attributed (expectPunches l other until .ledger) conn peer circuit claim now .answer ≡ attributed l conn peer circuit claim now .answer) ⌝ }
+    ensures closed { λ r. ⌜ ((l : PathLedger) → length (windowsOf l) ≤ 64 → (conn : ConnectionId) (peer other : PeerId) → (peer .0 ≡ other .0 → ⊥) → (circuit : Bool) (claim : Claim) (now : ℕ) → attributed (endPunches l other) conn peer circuit claim now .answer ≡ attributed l conn peer circuit claim now .answer) ⌝ }
+    ensures opened { λ r. ⌜ ((l : PathLedger) (conn : ConnectionId) (peer other : PeerId) → (peer .0 ≡ other .0 → ⊥) → (circuit : Bool) (claim : Claim) (until now : ℕ) → attributed (expectPunches l other until .ledger) conn peer circuit claim now .answer ≡ attributed l conn peer circuit claim now .answer) ⌝ }
 {}
 
 // After `forget` neither a dial nor a path of the connection is left.

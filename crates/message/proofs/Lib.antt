@@ -5,3 +5,4 @@ pub mod Addresses
 pub mod FieldList
 pub mod Answers
 pub mod ReadBack
+pub mod Refusals

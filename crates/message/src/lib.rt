@@ -402,6 +402,13 @@ pub fn encoded_reads_back()
     ensures { λ r. ⌜ ((k : Kind) (s out back : List ℕ) (n : ℕ) → ((i : ℕ) → getD s i 0 < 256) → encodeOf k s (length out) ≡ Encoded.Message n → length s ≤ length back → (decodeOf (take n (encodeInto k s out)) (length back) ≡ Decoded.Message k (length s)) × (decodeInto (take n (encodeInto k s out)) back ≡ over s back)) ⌝ }
 {}
 
+// A refusal changes no byte of the output.
+pub fn refused_changes_nothing()
+    ensures read { λ r. ⌜ ((m out : List ℕ) (why : Refusal) → decodeOf m (length out) ≡ Decoded.Refused why → decodeInto m out ≡ out) ⌝ }
+    ensures written { λ r. ⌜ ((k : Kind) (s out : List ℕ) (why : Refusal) → encodeOf k s (length out) ≡ Encoded.Refused why → encodeInto k s out ≡ out) ⌝ }
+    ensures framed { λ r. ⌜ ((k : Kind) (s out : List ℕ) (why : Refusal) → frameEncodeOf k s (length out) ≡ Encoded.Refused why → frameEncodeInto k s out ≡ out) ⌝ }
+{}
+
 // A room as long as the message is always enough for its list of addresses.
 pub fn room_is_enough()
     ensures { λ r. ⌜ ((m : List ℕ) (room : ℕ) → length m ≤ maxMessageSize → length m ≤ room → decodeOf m room ≡ withRoom (contentOf m)) ⌝ }

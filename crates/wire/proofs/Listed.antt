@@ -17,6 +17,10 @@ abbrev pub All : (List ℕ → Type 0) → List (List ℕ) → Type 0
 All P [] = Unit {0}
 All P (a ∷ xs) = P a × All P xs
 
+pub all-of : (xs : List (List ℕ)) → ((i : ℕ) → length (getD xs i []) < 65536) → All (λ a. length a < 65536) xs
+all-of [] h = tt
+all-of (a ∷ xs) h = (h 0, all-of xs (λ i. h (suc i)))
+
 pub listed-snoc : (xs : List (List ℕ)) (a : List ℕ) → listed (xs ++ (a ∷ [])) ≡ listed xs ++ entry a
 unfolding listed
 listed-snoc [] a = append-nil (entry a)

@@ -28,7 +28,7 @@ along end break more (suc k) s =
 abbrev pub entries : List ℕ → List (List ℕ)
 entries s = along [] [] (λ a xs. a ∷ xs) (length s) s
 
--- the list ends inside a length or an address
+-- the list stops in the middle of a length or of an address
 abbrev pub broken : List ℕ → Bool
 broken s = along false true (λ a b. b) (length s) s
 

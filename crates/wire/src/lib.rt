@@ -1,7 +1,7 @@
-// Bytes on the wire: protobuf's varints, the frame around a message, and the address lists between host and library.
+// Bytes on the wire: protobuf's varints, the frame around a message, and lists of addresses as the host hands them over.
 ghost use mathlib.Core.Path.{_≡_};
 ghost use mathlib.Core.Bool.{false};
-ghost use mathlib.Core.List.{List, _++_};
+ghost use mathlib.Core.List.{List, [], _++_};
 ghost use Prim.Native.Nat.{ℕ, _+_, _<_, _≤_, _^_};
 ghost use lib.ListN.{length, getD, take};
 ghost use lib.Seq.{sets};
@@ -216,7 +216,7 @@ pub fn entry_at(list: &[u8], at: usize) -> Entry
     }
 }
 
-// Whether a list ends inside a length or an address.
+// Whether a list stops in the middle of a length or of an address.
 pub fn is_broken(list: &[u8]) -> bool
     ensures { λ r. ⌜ r ≡ broken (now (list .entry)) ⌝ }
 {
@@ -284,7 +284,9 @@ pub fn framed_message_is_whole()
     ensures { λ r. ⌜ ((m rest : List ℕ) → length m ≤ maxMessageSize → frameOf (framed m ++ rest) ≡ Frame.Whole (length (encoded (length m))) (length m)) ⌝ }
 {}
 
-// The addresses of a list that is not broken make up that list again.
+// The addresses of a list that is not broken make up that list again; and addresses of up to 65,535 bytes are those of their list, which is
+// not broken.
 pub fn list_read_back()
-    ensures { λ r. ⌜ ((s : List ℕ) → ((i : ℕ) → getD s i 0 < 256) → broken s ≡ false → listed (entries s) ≡ s) ⌝ }
+    ensures written { λ r. ⌜ ((xs : List (List ℕ)) → ((i : ℕ) → length (getD xs i []) < 65536) → (entries (listed xs) ≡ xs) × (broken (listed xs) ≡ false)) ⌝ }
+    ensures read { λ r. ⌜ ((s : List ℕ) → ((i : ℕ) → getD s i 0 < 256) → broken s ≡ false → listed (entries s) ≡ s) ⌝ }
 {}

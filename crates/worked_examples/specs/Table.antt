@@ -41,6 +41,6 @@ pub record WorkedExamples : Type 0 where
       ≡ address4 8 8 8 1 4001 ∷ address4 8 8 8 2 4001 ∷ address4 8 8 8 3 4001 ∷ address4 8 8 8 4 4001 ∷ []
   -- half of a round trip
   pub half : halfOf 41 ≡ 21
-  -- the longest frame, and the shortest that is too long
+  -- the longest frame, and one that is too long at its second length byte
   pub longest : frameOf (0x80 ∷ 0x20 ∷ replicate 4096 0) ≡ Whole 2 4096
-  pub over : frameOf (0x81 ∷ 0x20 ∷ replicate 4097 0) ≡ Broken
+  pub over : frameOf (0x81 ∷ 0x20 ∷ []) ≡ Broken
