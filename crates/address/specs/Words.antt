@@ -50,7 +50,7 @@ passes6 n s t u =
 unfoldable pub globalUnicast6 : ℕ → Bool
 globalUnicast6 n = passes6 n (n / 2 ^ 112) (n / 2 ^ 96 % 2 ^ 16) (n / 2 ^ 80 % 2 ^ 16)
 
--- private targets on: all but unspecified and multicast
+-- private targets on: refused are :: and multicast
 unfoldable pub unicast6 : ℕ → Bool
 unicast6 n = no (either (eqb n 0) (leb 0xff (n / 2 ^ 120)))
 
@@ -58,7 +58,7 @@ unicast6 n = no (either (eqb n 0) (leb 0xff (n / 2 ^ 120)))
 abbrev pub isMapped : ℕ → ℕ → Bool
 isMapped h l = both (eqb h 0) (eqb (l / 2 ^ 32) 0xffff)
 
--- with private targets on, a mapped address is judged as its IPv4 address
+-- the address that is judged: of a mapped one, with private targets on, the IPv4 address that it carries
 abbrev pub judgedAs : Bool → Ip → Ip
 judgedAs private (V4 n) = V4 n
 judgedAs private (V6 h l) = pick (both private (isMapped h l)) (V4 (l % 2 ^ 32)) (V6 h l)

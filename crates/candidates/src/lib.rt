@@ -1,5 +1,5 @@
 // Which addresses become punch targets, and which of one's own are offered (inbound.rs, select_punch_candidates and
-// bound_punch_candidates; agent.rs, punch_candidates). A list is walked once; what is kept is an address list again.
+// bound_punch_candidates; agent.rs, punch_candidates). What is kept is an address list again.
 use address::Ip;
 use address::Parsed;
 use refusal::Refusal;

@@ -38,7 +38,7 @@ pub struct Connections {
     pub count: u64,
 }
 
-// The dials that are left, the tokens that were retired and the connections to close, ascending by connection.
+// The dials that are left, the tokens that were retired and the connections to close, in the order of the rows.
 pub struct Dropped {
     pub dials: Table,
     pub retired: Tokens,

@@ -144,7 +144,7 @@ abbrev pub inUseOf : ConnectionId → StreamId → Offer → Bool
 inUseOf conn stream offer.Nothing = false
 inUseOf conn stream (offer.Stream at on) = both (eqb (conn .0) (at .0)) (eqb (stream .0) (on .0))
 
--- the offer is the running exchange's pair
+-- the offered stream is the one that an exchange runs on
 unfoldable pub inUse : Phase → Offer → Bool
 inUse (Handshaking deadline) o = false
 inUse (Exchange conn stream count connect) o = inUseOf conn stream o

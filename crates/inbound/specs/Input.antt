@@ -7,6 +7,7 @@ use lib.ListN.{length, take, replicate}
 use Rattle.prelude.specs.Choice.{pick}
 use Rattle.ids.specs.declared.StreamId.{StreamId}
 use Rattle.refusal.specs.declared.Refusal.the-variants.{ReplyBufferTooShort, LedgerFull}
+use Rattle.wire.specs.Frame.{maxMessageSize, maxFrameSize}
 use Rattle.wire.specs.Lists.{listed, entries, broken}
 use Rattle.budget.specs.declared.UpgradeStop.{UpgradeStop}
 use Rattle.budget.specs.declared.UpgradeStop.the-variants.{None, ExchangeTimeout, UpgradeTimeout}
@@ -53,7 +54,7 @@ ownOf list =
 
 -- room for the addresses of any message
 unfoldable pub noList : List ℕ
-noList = replicate 4096 0
+noList = replicate maxMessageSize 0
 
 -- the targets among the addresses of a list
 unfoldable pub chosenFrom : Bool → List ℕ → Chosen
@@ -121,8 +122,8 @@ abbrev pub unless : InboundCircuit → PathLedger → List ℕ → Done → Chec
 unless c l buffer d check.Passed = d
 unless c l buffer d (check.Refused w) = record { answer = refusedOf c l w; buffer = buffer }
 
--- the reply buffer has room for the longest frame
+-- a reply buffer without room for the longest frame is refused before all else
 unfoldable pub inputOf : InboundCircuit → PathLedger → Host → List ℕ → StreamId → StreamInput → List ℕ → Bool → Done
 inputOf c l h buffer stream kind bytes pending =
-    pick (ltb (length buffer) 4098) (record { answer = refusedOf c l ReplyBufferTooShort; buffer = buffer })
+    pick (ltb (length buffer) maxFrameSize) (record { answer = refusedOf c l ReplyBufferTooShort; buffer = buffer })
     (unless c l buffer (inputAt c l h buffer stream kind bytes pending (c .phase)) (checkOf c h))

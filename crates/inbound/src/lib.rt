@@ -58,7 +58,7 @@ pub enum Phase {
         until: u64,
         blast: BlastSchedule,
     },
-    // A circuit that came up stays this machine's own.
+    // `promoted` is false where the handshake ran out or the start was refused: such a circuit was never this machine's own.
     Done {
         promoted: bool,
     },
@@ -552,7 +552,7 @@ fn tick(c: InboundCircuit, ledger: PathLedger, host: Host) -> Answer
 
 // ---- refusals
 
-// Whether the offer is the running exchange's pair.
+// Whether the offered stream is the one that an exchange runs on.
 fn offer_in_use(phase: Phase, offer: Offer) -> bool
     ensures { λ r. ⌜ r ≡ inUse phase offer ⌝ }
 {
@@ -744,7 +744,7 @@ fn write_of(pending: bool, at: u64) -> ConnectWrite
     ConnectWrite::Sent { at: at }
 }
 
-// The first input of an exchange, whatever it is, sends CONNECT; a closing one then fails the round.
+// CONNECT goes out with the first input, whatever that is; where it closes the stream the round has failed.
 fn first_input(
     c: InboundCircuit,
     ledger: PathLedger,

@@ -36,7 +36,7 @@ ghost use Rattle.journal_turns.specs.Turns.{longest, noEffects, newJourn
 
 // ---- the state
 
-// `circuit` is none before a start was accepted: until then it is not looked at.
+// Before a start was accepted `circuit` stands in for none, and no line reaches it.
 pub struct Journal {
     // The lines so far, without the first.
     pub n: u64,

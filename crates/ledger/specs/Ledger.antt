@@ -38,7 +38,7 @@ use Rattle.ledger.specs.declared.Answer.the-variants.{Path as Named, Non
 use Rattle.ledger.specs.declared.Attributed.{Attributed}
 use Rattle.ledger.specs.declared.Forgotten.{Forgotten}
 
--- ---- the three tables
+-- ---- the three tables (section 10.1)
 unfoldable pub emptyLedger : PathLedger
 emptyLedger = record { dials = tableOf []; windows = tableOf []; paths = tableOf [] }
 
@@ -70,7 +70,7 @@ windowRow peer end = record { key = peer .0; entry = Window end }
 abbrev pub pathRow : ConnectionId → Attribution → Row
 pathRow conn attribution = record { key = conn .0; entry = PathEntry attribution }
 
--- ---- dials
+-- ---- dials (sections 10.2 and 10.4)
 -- the ledger as it was, and number 4, where a 65th row would be needed
 abbrev pub fullOr : Bool → PathLedger → PathLedger → Recorded
 fullOr full l changed = pick full (record { ledger = l; outcome = Refused LedgerFull }) (record { ledger = changed; outcome = Accepted })
@@ -91,7 +91,7 @@ abortedWith l id firsts = withDropped l (abortWith id (pairs (dialsOf l) (firsts
 unfoldable pub abortedDials : PathLedger → ConnectId → PeerId → (PeerId → FirstLive) → Aborted
 abortedDials l id target first = withDropped l (abortOf id target first (dialsOf l))
 
--- ---- windows
+-- ---- windows (section 10.3)
 unfoldable pub refusesPunches : PathLedger → PeerId → Bool
 refusesPunches l peer = crowded (peer .0) (windowsOf l)
 
@@ -111,7 +111,7 @@ nextDeadline l = soonest (windowsOf l)
 unfoldable pub isQuiet : PathLedger → Bool
 isQuiet l = eqb (length (windowsOf l)) 0
 
--- ---- paths
+-- ---- paths (sections 10.5 and 10.6)
 unfoldable pub judgedBy : PathLedger → ConnectionId → PeerId → Bool → Claim → ℕ → FoundPath
 judgedBy l conn peer circuit claim now = judged circuit (dialAt conn (dialsOf l)) claim (windowOpen peer now (windowsOf l))
 

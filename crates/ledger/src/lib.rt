@@ -329,7 +329,7 @@ impl PathLedger {
         entries::soonest_end(windows)
     }
 
-    // No punch window is open. Dials and paths are no work: they end with their dial or connection.
+    // The table of windows has no row. Dials and paths are no work: they end with their dial or connection.
     pub fn is_quiet(self) -> bool
         ensures { λ r. ⌜ r ≡ isQuiet self ⌝ }
     {

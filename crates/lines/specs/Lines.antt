@@ -1,4 +1,4 @@
--- Lines out of blocks of input (RULES.md, section 12). A line ends in a line feed, the byte 10.
+-- Lines out of blocks of input (RULES.md, section 12.1). A line ends in a line feed, the byte 10.
 use Prim.Native.Nat.{ℕ, _+_}
 use mathlib.Core.List.{List}
 use lib.ListN.{length, take, drop}

@@ -42,7 +42,7 @@ byClaim NoClaim other = other
 byClaim (Circuit relay owner) other = other
 byClaim (DirectClaim id) other = record { path = Direct; owner = Attempt id }
 
--- punched inbound while the peer's window lasts
+-- a window of the peer says: punched, and the inbound side is the owner
 unfoldable pub byWindow : Bool → Attribution → Attribution
 byWindow lasting other = pick lasting (record { path = Punched; owner = Inbound }) other
 

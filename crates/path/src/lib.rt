@@ -24,7 +24,7 @@ pub struct Attribution {
     pub owner: Owner,
 }
 
-// Why a connection was dialed. A relay dial keeps the relay's handle.
+// Why a connection was dialed. Of a relay its handle is known, not its address.
 pub enum DialPurpose {
     Relay(ConnectId, PeerId),
     Punch(ConnectId),
@@ -76,7 +76,7 @@ fn circuit_path(claim: Claim) -> FoundPath
     }
 }
 
-// Punched inbound while the peer's window lasts.
+// A window of the peer says: punched, and the inbound side is the owner.
 fn by_window(lasting: bool, other: Attribution) -> Attribution
     ensures { λ r. ⌜ r ≡ byWindow lasting other ⌝ }
 {

@@ -1,4 +1,4 @@
--- A table as the list of its rows in use, and what is done to the list (RULES.md, section 10).
+-- A table as the list of its rows in use, and what is done to the list (RULES.md, section 10.1).
 use Prim.Native.Nat.{ℕ, _-_}
 use mathlib.Core.Bool.{Bool, true}
 use mathlib.Core.List.{List, [], _∷_, _++_}

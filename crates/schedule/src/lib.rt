@@ -151,7 +151,7 @@ pub fn counts_add_up()
     ensures { λ r. ⌜ ((start until i rtt : ℕ) (ats : List ℕ) → counted i start until rtt (largestOf none ats) ≤ last → sumAll start until i rtt ats ≡ counted i start until rtt (largestOf none ats)) ⌝ }
 {}
 
-// The only input whose count does not fit 64 bits.
+// Only a window from 0 to the last time, at interval 0 or 1, has more instants than 64 bits count, and only by a reading at its end.
 pub fn count_fits()
     ensures { λ r. ⌜ ((start until i at : ℕ) → until ≤ last → last < countTo at (instants start i until) → (start ≡ 0) × (until ≡ last) × (i ≤ 1) × (last ≤ at)) ⌝ }
 {}
