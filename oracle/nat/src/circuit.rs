@@ -237,6 +237,20 @@ impl Circuit {
         self.machine().next_deadline()
     }
 
+    /// The next deadline, and whether the circuit promotes and whether it
+    /// claims the connection of its own number; none of it before a start.
+    pub(crate) fn questions(&self) -> (Option<u64>, bool, bool) {
+        let Some(machine) = &self.machine else {
+            return (None, false, false);
+        };
+        let own = ConnectionId(self.swarm.circuit);
+        (
+            machine.next_deadline(),
+            machine.promotes(own),
+            machine.circuit_claim(own).is_some(),
+        )
+    }
+
     fn machine(&self) -> &InboundCircuit {
         self.machine.as_ref().expect("started")
     }

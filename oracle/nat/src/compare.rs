@@ -24,6 +24,7 @@ impl Side for Rust {
         let mut out = Vec::new();
         let ran = panic::catch_unwind(AssertUnwindSafe(|| match self.mode.as_str() {
             "journal" => crate::journal::run(input, &mut out),
+            "questions" => crate::journal::run_questions(input, &mut out),
             mode => crate::lines::run(mode, input, &mut out).expect("a known mode"),
         }));
         if let Ok(written) = ran {
@@ -125,6 +126,10 @@ pub fn count(kinds: &mut Kinds, answer: &[u8]) {
         let kind = match words[..] {
             ["refused", why, ..] => format!("refused {why}"),
             ["attributed", path, ..] => format!("attributed {path}"),
+            [n, next, promotes, claims] if n.starts_with("n=") => {
+                let next = if next == "next=none" { next } else { "next" };
+                format!("{next} {promotes} {claims}")
+            }
             ["burst", times, ..] if past_loop(times) => "burst counted by closed form".to_string(),
             [first, ..] => first.split(['=', ':']).next().unwrap_or(first).to_string(),
             [] => continue,

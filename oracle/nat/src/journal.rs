@@ -80,39 +80,42 @@ enum Call {
 }
 
 pub fn run(input: &[u8], out: &mut impl Write) -> io::Result<()> {
-    let mut lines = text::lines(input);
-    let Some(mut journal) = lines.next().flatten().and_then(Journal::read) else {
-        return writeln!(out, "n=0 out=refused why=11");
-    };
-    for (before, line) in lines.enumerate() {
-        let n = before + 1;
+    replay(input, out, |journal, line, n, out| {
         match journal.line(line) {
-            Err(why) => writeln!(out, "n={n} out=refused why={why}")?,
-            Ok(effects) if effects.is_empty() => writeln!(out, "n={n} out=none")?,
-            Ok(effects) => {
-                for effect in effects {
-                    writeln!(out, "n={n} out={effect}")?;
-                }
-            }
+            Err(why) => writeln!(out, "n={n} out=refused why={why}"),
+            Ok(effects) if effects.is_empty() => writeln!(out, "n={n} out=none"),
+            Ok(effects) => effects
+                .iter()
+                .try_for_each(|effect| writeln!(out, "n={n} out={effect}")),
         }
-    }
-    Ok(())
+    })
 }
 
-/// Prints, after each line, the circuit's next deadline instead of the
-/// answers, for holding it against another run of the same journal.
-pub fn run_deadlines(input: &[u8], out: &mut impl Write) -> io::Result<()> {
+/// Prints after each line, instead of its outputs, what the circuit answers
+/// then (docs/RULES.md, section 11.9).
+pub fn run_questions(input: &[u8], out: &mut impl Write) -> io::Result<()> {
+    replay(input, out, |journal, line, n, out| {
+        // Only the state that it leaves is wanted.
+        let _ = journal.line(line);
+        let (next, promotes, claims) = journal.circuit.questions();
+        let next = next.map_or("none".to_string(), |next| next.to_string());
+        let [promotes, claims] = [promotes, claims].map(u8::from);
+        writeln!(out, "n={n} next={next} promotes={promotes} claims={claims}")
+    })
+}
+
+/// Goes through the lines behind the first, which are counted from 1.
+fn replay<W: Write>(
+    input: &[u8],
+    out: &mut W,
+    mut answer: impl FnMut(&mut Journal, Option<&[u8]>, usize, &mut W) -> io::Result<()>,
+) -> io::Result<()> {
     let mut lines = text::lines(input);
     let Some(mut journal) = lines.next().flatten().and_then(Journal::read) else {
         return writeln!(out, "n=0 out=refused why=11");
     };
     for (before, line) in lines.enumerate() {
-        // Only the state it leaves is wanted.
-        let _ = journal.line(line);
-        let started = journal.circuit.started();
-        let next = started.then(|| journal.circuit.next_deadline()).flatten();
-        let next = next.map_or("none".to_string(), |next| next.to_string());
-        writeln!(out, "n={} next={next}", before + 1)?;
+        answer(&mut journal, line, before + 1, out)?;
     }
     Ok(())
 }

@@ -1,11 +1,11 @@
 //! Holds the Rust against other programs.
 //!
-//! `compare SEED COUNT FORMAT=PROGRAM ..` with FORMAT journal, message,
-//! candidate, budget, schedule or ledger. A PROGRAM that begins with `many:`
-//! answers many inputs, each after a line with its length. COUNT journals
-//! are run, or COUNT random lines beside the named ones. Stops at the first
-//! difference, with exit code 1; it is shrunk first, unless COUNT is followed
-//! by `--first`.
+//! `compare SEED COUNT FORMAT=PROGRAM ..` with FORMAT journal, questions,
+//! message, candidate, budget, schedule or ledger. A PROGRAM that begins with
+//! `many:` answers many inputs, each after a line with its length. COUNT
+//! journals are run, or COUNT random lines beside the named ones. Stops at the
+//! first difference, with exit code 1; it is shrunk first, unless COUNT is
+//! followed by `--first`.
 
 use std::io::{self, Write};
 use std::path::Path;
@@ -70,9 +70,10 @@ fn compared(
         }
         return Ok(false);
     }
-    let what = match mode {
-        "journal" => format!("{count} journals, {lines} lines"),
-        _ => format!("{lines} lines"),
+    let what = if of_journals(mode) {
+        format!("{count} journals, {lines} lines")
+    } else {
+        format!("{lines} lines")
     };
     println!("{mode}: {what}, no difference (seed {seed})");
     let kinds: Vec<String> = kinds
@@ -83,8 +84,13 @@ fn compared(
     Ok(true)
 }
 
+/// Formats whose inputs are journals.
+fn of_journals(mode: &str) -> bool {
+    mode == "journal" || mode == "questions"
+}
+
 fn inputs(mode: &str, seed: u64, count: u64) -> Box<dyn Iterator<Item = Vec<u8>>> {
-    if mode == "journal" {
+    if of_journals(mode) {
         // Seeds of one run are not those of the next.
         let first = seed.wrapping_mul(1_000_003);
         return Box::new((0..count).map(move |n| generate::journal(first.wrapping_add(n))));

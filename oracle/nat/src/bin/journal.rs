@@ -1,5 +1,5 @@
-//! Reads a journal and prints its output, or with `--deadlines` the circuit's
-//! next deadline after each line.
+//! Reads a journal and prints its output, or with `--questions` what the
+//! circuit answers after each line.
 
 use std::io::{self, Read, Write};
 
@@ -7,8 +7,8 @@ fn main() -> io::Result<()> {
     let mut input = Vec::new();
     io::stdin().lock().read_to_end(&mut input)?;
     let mut out = io::BufWriter::new(io::stdout().lock());
-    if std::env::args().any(|arg| arg == "--deadlines") {
-        oracle::journal::run_deadlines(&input, &mut out)?;
+    if std::env::args().any(|arg| arg == "--questions") {
+        oracle::journal::run_questions(&input, &mut out)?;
     } else {
         oracle::journal::run(&input, &mut out)?;
     }

@@ -1,0 +1,32 @@
+-- What is printed of a line is what the definitions say. Assumes nothing.
+use mathlib.Core.Path.{_≡_, ap, _∙_}
+use mathlib.Core.List.{List, _++_}
+use mathlib.Core.Bool.{Bool}
+use Prim.Native.Nat.{ℕ}
+use Rattle.text.specs.Words.{ascii}
+use Rattle.text.specs.Decimal.{decimal}
+use Rattle.text.specs.Printed.{printed, behind}
+use Rattle.journal_turns.specs.Turns.{lineTurn}
+use Rattle.journal_turns.specs.declared.Journal.{Journal}
+use Rattle.journal_turns.specs.declared.Turn.{Turn}
+use Rattle.circuit_questions.specs.declared.Answers.{Answers}
+use Rattle.circuit_questions.specs.Answers.{bit, answersOf, nextText, answersText, journalText, lineText}
+
+pub answers-text : (n : ℕ) (a : Answers) {promotes claims : ℕ} → promotes ≡ bit (a .promotes) → claims ≡ bit (a .claims)
+    → ascii "n=" ++ decimal n ++ nextText (a .next) ++ (ascii " promotes=" ++ decimal promotes) ++ (ascii " claims=" ++ decimal claims) ++ ascii "\n" ≡ answersText n a
+unfolding answersText
+answers-text n a e f = rw (e, f)
+
+pub line-answered : (j : Journal) (reply line : List ℕ) (ended : Bool) (o : List ℕ) {t : Turn} {a : Answers} {b x : List ℕ} {q : ℕ}
+    → (t ≡ lineTurn j reply line ended .turn) × (b ≡ lineTurn j reply line ended .reply)
+    → a ≡ answersOf (t .journal .begun) (t .journal .circuit)
+    → (x ≡ printed o 0 (answersText (t .journal .n) a)) × (q ≡ behind o 0 (answersText (t .journal .n) a))
+    → (t .journal ≡ lineTurn j reply line ended .turn .journal)
+    × ((b ≡ lineTurn j reply line ended .reply)
+    × ((x ≡ printed o 0 (lineText j reply line ended)) × (q ≡ behind o 0 (lineText j reply line ended))))
+unfolding lineText
+line-answered j reply line ended o {t} {a} f g h =
+    let y : t .journal ≡ lineTurn j reply line ended .turn .journal = ap (λ (s : Turn). s .journal) (f .0) in
+    let z : answersText (t .journal .n) a ≡ journalText (lineTurn j reply line ended .turn .journal)
+    = ap (λ (s : Answers). answersText (t .journal .n) s) g ∙ ap journalText y in
+    (y, (f .1, (h .0 ∙ ap (λ (s : List ℕ). printed o 0 s) z, h .1 ∙ ap (λ (s : List ℕ). behind o 0 s) z)))

@@ -1,0 +1,34 @@
+use denote.Ref.{now}
+use Rattle.circuit_questions.proofs.Answering.{line-answered}
+use borrow.Author.Needs.{needs}
+use Rattle.circuit_questions.proofs.answer_line.Statement.{statement}
+use Rattle.circuit_questions.proofs.answer_line.Tie as tie
+
+take-line-requires : tie.Need-take-line-requires
+take-line-requires c κs = search needs
+
+ask-requires : tie.Need-ask-requires
+ask-requires c κs = search needs
+
+put-answers-requires : tie.Need-put-answers-requires
+put-answers-requires c κs = search needs
+
+same-length : tie.Need-same-length
+same-length c = search needs
+
+same-length-2 : tie.Need-same-length-2
+same-length-2 c = search needs
+
+returns : tie.Need-returns
+returns c = line-answered (c .before .before .before .before .before .before .before .before .before .before .before .before .before .before .args .j) (now (c .before .before .before .before .before .before .before .before .before .before .before .before .before .before .args .reply)) (now (c .before .before .before .before .before .before .before .before .before .before .before .before .before .before .args .line)) (c .before .before .before .before .before .before .before .before .before .before .before .before .before .before .args .ended) (now (c .before .before .before .before .before .before .before .before .before .before .before .before .before .before .args .out)) (c .before .before .before .before .before .before .before .before .before .take-line .ensures) (c .before .before .before .before .ask .ensures) (c .before .before .put-answers .ensures)
+
+pub answer-line-spec : {M : Type 1} → statement M
+answer-line-spec =
+    tie.close
+    (tie.spec
+    take-line-requires
+    ask-requires
+    put-answers-requires
+    same-length
+    same-length-2
+    returns)

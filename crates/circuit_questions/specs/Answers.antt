@@ -1,0 +1,60 @@
+-- What the circuit answers after a line (RULES.md, section 11.9), and what is printed of it (README.md).
+use Prim.Native.Nat.{ℕ}
+use mathlib.Core.Bool.{Bool, true, false}
+use mathlib.Core.List.{List, _++_}
+use Rattle.prelude.specs.Choice.{pick}
+use Rattle.text.specs.Words.{ascii}
+use Rattle.text.specs.Decimal.{decimal}
+use Rattle.path.specs.declared.Claim.{Claim}
+use Rattle.inbound.specs.declared.Deadline.{Deadline}
+use Rattle.inbound.specs.declared.InboundCircuit.{InboundCircuit}
+use Rattle.inbound.specs.Circuit.{promotesOf, claimOf, nextDeadlineAt}
+use Rattle.journal_turns.specs.Turns.{lineTurn}
+use Rattle.journal_turns.specs.declared.Journal.{Journal}
+use Rattle.circuit_questions.specs.declared.Answers.{Answers}
+use Rattle.path.specs.declared.Claim.the-variants as claim
+use Rattle.inbound.specs.declared.Deadline.the-variants as deadline
+
+-- ---- the questions (section 11.9)
+
+abbrev pub isClaim : Claim → Bool
+isClaim claim.None = false
+isClaim (claim.Circuit relay owner) = true
+isClaim (claim.Direct id) = true
+
+-- asked about the connection of the circuit's own number; no circuit is there to be asked until a start was accepted (section 12.5)
+unfoldable pub answersOf : Bool → InboundCircuit → Answers
+answersOf begun c =
+    pick begun
+    (record {
+      next = nextDeadlineAt c (c .phase);
+      promotes = promotesOf c (c .circuit);
+      claims = isClaim (claimOf c (c .circuit));
+    })
+    (record { next = deadline.None; promotes = false; claims = false })
+
+-- ---- what is printed
+
+-- 1 for yes, 0 for no
+abbrev pub bit : Bool → ℕ
+bit v = pick v 1 0
+
+abbrev pub nextText : Deadline → List ℕ
+nextText (deadline.At end) = ascii " next=" ++ decimal end
+nextText deadline.None = ascii " next=none"
+
+unfoldable pub answersText : ℕ → Answers → List ℕ
+answersText n a =
+    ascii "n=" ++ decimal n
+    ++ nextText (a .next)
+    ++ (ascii " promotes=" ++ decimal (bit (a .promotes)))
+    ++ (ascii " claims=" ++ decimal (bit (a .claims)))
+    ++ ascii "\n"
+
+-- in the line's number, of the circuit as the line leaves it
+abbrev pub journalText : Journal → List ℕ
+journalText j = answersText (j .n) (answersOf (j .begun) (j .circuit))
+
+-- the journal before a line, the reply buffer, the line without its line feed, and whether it had one (section 12.7)
+unfoldable pub lineText : Journal → List ℕ → List ℕ → Bool → List ℕ
+lineText j reply line ended = journalText (lineTurn j reply line ended .turn .journal)

@@ -1,0 +1,191 @@
+// Replays the journal on standard input and prints after each line what the circuit then answers to the questions of docs/RULES.md,
+// section 11.9, asked about the connection of its own number. README.md has the lines.
+ghost use mathlib.Core.Path.{_≡_};
+ghost use Prim.Native.Nat.{_≤_};
+ghost use lib.ListN.{length};
+ghost use Rattle.text.specs.Printed.{printed, behind};
+ghost use Rattle.journal_turns.specs.Turns.{lineTurn};
+ghost use Rattle.circuit_questions.specs.Answers.{isClaim, bit, answersOf, nextText, answersText, lineText};
+use inbound::Deadline;
+use inbound::InboundCircuit;
+use journal_turns::Journal;
+use line_program::Reading;
+use path::Claim;
+
+// ---- what the circuit answers
+
+pub struct Answers {
+    pub next: Deadline,
+    pub promotes: bool,
+    pub claims: bool,
+}
+
+fn is_claim(claim: Claim) -> bool
+    ensures { λ r. ⌜ r ≡ isClaim claim ⌝ }
+{
+    match claim {
+        Claim::None => false,
+        Claim::Circuit { .. } => true,
+        Claim::Direct(_) => true,
+    }
+}
+
+// Before a start was accepted the journal's circuit is none that could be asked.
+fn ask(begun: bool, c: InboundCircuit) -> Answers
+    ensures { λ r. ⌜ r ≡ answersOf begun c ⌝ }
+{
+    if begun {
+        let own = c.circuit;
+        let next = c.next_deadline();
+        let promotes = c.promotes(own);
+        let claims = is_claim(c.circuit_claim(own));
+        return Answers {
+            next: next,
+            promotes: promotes,
+            claims: claims,
+        };
+    }
+    Answers {
+        next: Deadline::None,
+        promotes: false,
+        claims: false,
+    }
+}
+
+// ---- what is printed of it
+
+fn one_if(v: bool) -> u64
+    ensures { λ r. ⌜ r ≡ bit v ⌝ }
+{
+    if v {
+        return 1;
+    }
+    0
+}
+
+fn put_next(next: Deadline, out: &mut [u8], at: usize) -> usize
+    ensures bytes { λ r. ⌜ now (out .exit) ≡ printed (now (out .entry)) at (nextText next) ⌝ }
+    ensures place { λ r. ⌜ r ≡ behind (now (out .entry)) at (nextText next) ⌝ }
+{
+    match next {
+        Deadline::At(end) => fields::put_number(b" next=", end, out, at),
+        Deadline::None => text::put_text(b" next=none", out, at),
+    }
+}
+
+fn put_answers(n: u64, a: Answers, out: &mut [u8]) -> usize
+    ensures bytes { λ r. ⌜ now (out .exit) ≡ printed (now (out .entry)) 0 (answersText n a) ⌝ }
+    ensures place { λ r. ⌜ r ≡ behind (now (out .entry)) 0 (answersText n a) ⌝ }
+{
+    let next = a.next;
+    let promotes = one_if(a.promotes);
+    let claims = one_if(a.claims);
+    let p = fields::put_number(b"n=", n, out, 0);
+    let p = put_next(next, out, p);
+    let p = fields::put_number(b" promotes=", promotes, out, p);
+    let p = fields::put_number(b" claims=", claims, out, p);
+    text::put_text(b"\n", out, p)
+}
+
+// ---- a line
+
+// The journal after a line, and where the line printed of it ends in the buffer.
+pub struct Answered {
+    pub journal: Journal,
+    pub end: usize,
+}
+
+// A line behind the first, without its line feed; `ended` is whether it had one.
+fn answer_line(j: Journal, reply: &mut [u8], line: &[u8], ended: bool, out: &mut [u8]) -> Answered
+    ensures journal { λ r. ⌜ r .journal ≡ lineTurn j (now (reply .entry)) (now (line .entry)) ended .turn .journal ⌝ }
+    ensures reply { λ r. ⌜ now (reply .exit) ≡ lineTurn j (now (reply .entry)) (now (line .entry)) ended .reply ⌝ }
+    ensures bytes { λ r. ⌜ now (out .exit) ≡ printed (now (out .entry)) 0 (lineText j (now (reply .entry)) (now (line .entry)) ended) ⌝ }
+    ensures place { λ r. ⌜ r .end ≡ behind (now (out .entry)) 0 (lineText j (now (reply .entry)) (now (line .entry)) ended) ⌝ }
+{
+    let t = journal_turns::take_line(j, reply, line, ended);
+    let next = t.journal;
+    let circuit = next.circuit;
+    let a = ask(next.begun, circuit);
+    let end = put_answers(next.n, a, out);
+    Answered {
+        journal: next,
+        end: end,
+    }
+}
+
+// ---- the program
+
+// Where the input stands behind a line, and the journal.
+pub struct Step {
+    pub reading: Reading,
+    pub journal: Journal,
+}
+
+// Answers the next line; the reading goes on where there was one, and its answer was written.
+fn answer_next(
+    block: &mut [u8],
+    line: &mut [u8],
+    reply: &mut [u8],
+    out: &mut [u8],
+    before: Step,
+) -> Step
+    ensures { λ r. ⌜ r .reading .until ≤ length (now (block .entry)) ⌝ }
+{
+    let j = before.journal;
+    let mut s = line_program::next_line(block, line, before.reading.from, before.reading.until);
+    if !s.ended && s.used == 0 {
+        return Step {
+            reading: s,
+            journal: j,
+        };
+    }
+    let used = s.used;
+    let a = answer_line(j, reply, &line[..used], s.ended, out);
+    let next = a.journal;
+    if !line_program::print(out, a.end) {
+        s.more = false;
+    }
+    Step {
+        reading: s,
+        journal: next,
+    }
+}
+
+// Goes through the lines behind the first. A proved loop has to end, so it counts its turns down from a number that no run uses up.
+fn run(block: &mut [u8], line: &mut [u8], reply: &mut [u8], out: &mut [u8], first: Step)
+    ensures { λ _. ⌜ length (now (out .exit)) ≡ length (now (out .entry)) ⌝ }
+{
+    let mut s = first;
+    let mut turns = u64::MAX;
+    while 0 < turns && s.reading.more {
+        s = answer_next(block, line, reply, out, s);
+        turns -= 1;
+    }
+}
+
+// The first line, and the others where it is good.
+fn replay(block: &mut [u8], line: &mut [u8], reply: &mut [u8], out: &mut [u8])
+    ensures { λ _. ⌜ length (now (out .exit)) ≡ length (now (out .entry)) ⌝ }
+{
+    let s = line_program::next_line(block, line, 0, 0);
+    let used = s.used;
+    let o = journal_text::open_journal(&line[..used], s.ended, out, 0);
+    if o.good {
+        let opened = o.journal;
+        let first = Step {
+            reading: s,
+            journal: opened,
+        };
+        run(block, line, reply, out, first);
+        return;
+    }
+    line_program::print(out, o.next);
+}
+
+fn main() {
+    let mut block = io::large_buffer();
+    let mut line = [0u8; 32768];
+    let mut reply = [0u8; 4098];
+    let mut out = io::large_buffer();
+    replay(&mut block, &mut line, &mut reply, &mut out);
+}
