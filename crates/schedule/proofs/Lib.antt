@@ -2,4 +2,3 @@ pub mod Instants
 pub mod Schedule
 pub mod Counted
 pub mod Readings
-pub mod Examples

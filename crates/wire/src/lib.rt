@@ -1,7 +1,7 @@
 // Bytes on the wire: protobuf's varints, the frame around a message, and lists of addresses as the host hands them over.
 ghost use mathlib.Core.Path.{_≡_};
 ghost use mathlib.Core.Bool.{false};
-ghost use mathlib.Core.List.{List, [], _++_};
+ghost use mathlib.Core.List.{List, [], _∷_, _++_};
 ghost use Prim.Native.Nat.{ℕ, _+_, _<_, _≤_, _^_};
 ghost use lib.ListN.{length, getD, take};
 ghost use lib.Seq.{sets};
@@ -277,6 +277,12 @@ pub fn varint_read_back()
 // A frame that is whole stays whole, whatever stands behind it.
 pub fn frame_stays_whole()
     ensures { λ r. ⌜ ((s rest : List ℕ) (start len : ℕ) → frameOf s ≡ Frame.Whole start len → frameOf (s ++ rest) ≡ Frame.Whole start len) ⌝ }
+{}
+
+// A frame of 4,096 bytes is whole once they are there; one of 4,097 is broken at its second length byte.
+pub fn longest_frame()
+    ensures whole { λ r. ⌜ ((m : List ℕ) → maxMessageSize ≤ length m → frameOf (0x80 ∷ 0x20 ∷ m) ≡ Frame.Whole 2 maxMessageSize) ⌝ }
+    ensures broken { λ r. ⌜ ((rest : List ℕ) → frameOf (0x81 ∷ 0x20 ∷ rest) ≡ Frame.Broken) ⌝ }
 {}
 
 // A message behind its length is a whole frame, whatever follows.

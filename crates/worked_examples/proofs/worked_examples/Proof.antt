@@ -5,12 +5,14 @@ use Rattle.address.specs.Multiaddr.{bigEndian, hasForm, parsed}
 use Rattle.address.specs.Words.{globalUnicast4, mayBeTarget}
 use Rattle.candidates.specs.Entries.{count, only}
 use Rattle.candidates.specs.Selection.{room, bounded, selected}
-use Rattle.schedule.specs.Instants.{halfOf}
+use Rattle.time.specs.Time.{plus}
+use Rattle.schedule.specs.Instants.{halfOf, startOf, upto, instants, countIf, countTo}
+use Rattle.schedule.specs.Schedule.{ahead, without, timesOf, dueOf}
 use Rattle.worked_examples.proofs.worked_examples.Statement.{statement}
 use Rattle.worked_examples.proofs.worked_examples.Tie as tie
 
 returns : tie.Need-returns
-unfolding selected bounded only count room parsed hasForm bigEndian mayBeTarget globalUnicast4 halfOf frameFrom
+unfolding selected bounded only count room parsed hasForm bigEndian mayBeTarget globalUnicast4 plus halfOf startOf upto instants countIf countTo ahead without timesOf dueOf frameFrom
 returns c =
     record {
       anycast = refl;
@@ -22,6 +24,12 @@ returns c =
       third = refl;
       fifth = refl;
       half = refl;
+      start = refl;
+      window = refl;
+      two = refl;
+      one = refl;
+      startCut = refl;
+      windowCut = refl;
       longest = refl;
       over = refl;
     }
