@@ -10,9 +10,8 @@ use lib.Seq.{take-all, split-at, drop-drop}
 use borrow.Author.Tests.{lt-ltb, le-ltb, ltb-true, ltb-false, eqb-true}
 use Rattle.prelude.specs.Choice.{pick}
 use Rattle.text.specs.Words.{lengthBefore}
-use Rattle.text.specs.Printed.{printed, behind}
-use Rattle.text.proofs.Reading.{before-within}
-use Rattle.text.proofs.Printing.{Laid, laid, laid-none, then}
+use Rattle.text.specs.Printed.{printed}
+use Rattle.text.proofs.Printing.{Laid, laid-none, then}
 use Rattle.lines.specs.Lines.{textFrom, endFrom, gathered}
 use Rattle.lines.specs.declared.Gathered.{Gathered}
 use Rattle.line_program.specs.declared.Reading.{Reading}

@@ -16,7 +16,6 @@ use Rattle.message.specs.Encoding.{messageBytes, frameBytes, sent, sentI
 use Rattle.message.specs.declared.Kind.{Kind}
 use Rattle.message.specs.declared.Decoded.{Decoded}
 use Rattle.message.specs.declared.Decoded.the-variants as d
-use Rattle.message.specs.declared.Encoded.{Encoded}
 use Rattle.message.specs.declared.Encoded.the-variants as e
 
 pub read-kept : (m out : List ℕ) (why : Refusal) → decodeOf m (length out) ≡ d.Refused why → decodeInto m out ≡ out
