@@ -4,4 +4,4 @@ pub mod Numbers
 pub mod Book
 pub mod Demand3
 pub mod Example
-pub mod TwoRounds
+pub mod ThreeRounds

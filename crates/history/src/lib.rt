@@ -11,8 +11,8 @@ ghost use Rattle.history.specs.Calls.{Call, stepOf};
 ghost use Rattle.history.specs.Refusals.{ChangesNothing};
 ghost use Rattle.history.specs.Numbers.{refusedWith, answeredWith};
 ghost use Rattle.history.specs.Demand3.{Demand3, due, windowsOf};
-ghost use Rattle.history.specs.Example.{source, relay, circuit, settings, begun, calls, each, expected};
-ghost use Rattle.history.specs.TwoRounds as two;
+ghost use Rattle.history.specs.Example.{source, relay, circuit, begun, calls, each, expected};
+ghost use Rattle.history.specs.ThreeRounds as three;
 
 // The datagrams of all answers are those of the book's windows, and no more than the bound.
 pub fn demand_3()
@@ -34,8 +34,8 @@ pub fn worked_example()
     ensures { λ _. ⌜ each begun calls ≡ expected ⌝ }
 {}
 
-// The datagrams of each answer of a list with two rounds, and those of its book's windows.
-pub fn two_rounds()
-    ensures answers { λ _. ⌜ each begun two.calls ≡ two.expected ⌝ }
-    ensures windows { λ _. ⌜ due settings (windowsOf source relay circuit settings 0 two.calls) ≡ two.all ⌝ }
+// The datagrams of each answer of a list with three rounds, and those of its book's windows.
+pub fn three_rounds()
+    ensures answers { λ _. ⌜ each three.begun three.calls ≡ three.expected ⌝ }
+    ensures windows { λ _. ⌜ due three.settings (windowsOf source relay circuit three.settings 0 three.calls) ≡ three.all ⌝ }
 {}
