@@ -11,6 +11,7 @@ use lib.Seq.{take-append-seam, drop-append-add, take-all}
 use borrow.Author.Tests.{lt-ltb, le-ltb, eq-eqb, ne-eqb}
 use Rattle.prelude.specs.Choice.{pick}
 use Rattle.text.specs.Words.{lengthBefore}
+use Rattle.lines.proofs.Feeds.{joined}
 use Rattle.journal_lines.specs.declared.Line.the-variants.{Unknown}
 use Rattle.journal_turns.specs.Turns.{longest, read, turnOf, lineTurn}
 use Rattle.journal_laws.specs.Journals.{cut, linesOf}
@@ -40,13 +41,7 @@ enough (suc n) (suc m) s h k = go (eqb (length s) 0) refl (enough n m (drop (suc
 -- up to a line feed
 before-feed : (text rest : List ℕ) → lengthBefore 10 text ≡ length text → lengthBefore 10 (text ++ (10 ∷ rest)) ≡ length text
 unfolding lengthBefore
-before-feed [] rest p = refl
-before-feed (b ∷ s) rest p = go (eqb b 10) p (before-feed s rest)
-  where
-    go : (v : Bool) → pick v 0 (suc (lengthBefore 10 s)) ≡ suc (length s) → (lengthBefore 10 s ≡ length s → lengthBefore 10 (s ++ (10 ∷ rest)) ≡ length s)
-        → pick v 0 (suc (lengthBefore 10 (s ++ (10 ∷ rest)))) ≡ suc (length s)
-    go true e f = absurd (omega arith)
-    go false e f = ap suc (f (omega arith))
+before-feed text rest p = joined text (10 ∷ rest) p ∙ omega arith
 
 pub lines : LineByLine
 unfolding cut

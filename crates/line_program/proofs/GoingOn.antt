@@ -5,7 +5,7 @@ use mathlib.Core.Bool.{Bool, true, false, not}
 use Prim.Native.Nat.{ℕ, suc, _+_, _<_, _≤_, min}
 use native.Mathlib.Omega.{arith}
 use lib.Dec.{ltb, eqb}
-use lib.ListN.{length, getD, take, drop, length-take, length-drop, drop-of-length-le}
+use lib.ListN.{length, getD, take, drop, length-append, length-take, length-drop, drop-of-length-le}
 use lib.Seq.{take-all, split-at, drop-drop}
 use borrow.Author.Tests.{lt-ltb, le-ltb, ltb-true, ltb-false, eqb-true}
 use Rattle.prelude.specs.Choice.{pick}
@@ -14,6 +14,7 @@ use Rattle.text.specs.Printed.{printed}
 use Rattle.text.proofs.Printing.{Laid, laid-none, then}
 use Rattle.lines.specs.Lines.{textFrom, endFrom, gathered}
 use Rattle.lines.specs.declared.Gathered.{Gathered}
+use Rattle.lines.proofs.Feeds.{joined}
 use Rattle.line_program.specs.declared.Reading.{Reading}
 use Rattle.line_program.specs.Reads.{left, feed, refilled, Read}
 
@@ -42,15 +43,8 @@ feed-behind (b ∷ s) h = go (eqb b 10) refl h (feed-behind s)
     go false e k f = f (omega arith)
 
 -- two texts without a line feed make one
-pub plain-joined : (s t : List ℕ) → lengthBefore 10 s ≡ length s → lengthBefore 10 t ≡ length t → lengthBefore 10 (s ++ t) ≡ length (s ++ t)
-unfolding lengthBefore
-plain-joined [] t p q = q
-plain-joined (b ∷ s) t p q = go (eqb b 10) p (plain-joined s t)
-  where
-    go : (v : Bool) → pick v 0 (suc (lengthBefore 10 s)) ≡ suc (length s) → (lengthBefore 10 s ≡ length s → lengthBefore 10 t ≡ length t → lengthBefore 10 (s ++ t) ≡ length (s ++ t))
-        → pick v 0 (suc (lengthBefore 10 (s ++ t))) ≡ suc (length (s ++ t))
-    go true e f = absurd (omega arith)
-    go false e f = ap suc (f (omega arith) q)
+plain-joined : (s t : List ℕ) → lengthBefore 10 s ≡ length s → lengthBefore 10 t ≡ length t → lengthBefore 10 (s ++ t) ≡ length (s ++ t)
+plain-joined s t p q = omega (arith, joined s t p, q, length-append s t)
 
 -- bytes are those before their line feed, the line feed, and those behind it; without one they are all
 pub split : (s : List ℕ) → s ≡ take (lengthBefore 10 s) s ++ (feed (ltb (lengthBefore 10 s) (length s)) ++ drop (suc (lengthBefore 10 s)) s)
