@@ -26,7 +26,8 @@ use Rattle.inbound.specs.declared.StreamInput.{StreamInput}
 use Rattle.inbound.specs.declared.StreamInput.the-variants as i
 use Rattle.inbound.specs.declared.ConnectWrite.{ConnectWrite}
 use Rattle.inbound.specs.declared.ConnectWrite.the-variants.{Unsent, Held, Sent}
-use Rattle.inbound.specs.Brought.{Brought, unfinished, failed, connect, broughtBy}
+use Rattle.inbound.specs.Brought.{Brought, unfinished, failed, connect}
+use Rattle.history.specs.Heard.{heard}
 use Rattle.history.specs.Calls.{Call, up, input, tick, wrote, down, toEach, copies, refusals}
 use Rattle.history.specs.Book.{Window, Asking, Stage, handshaking, asking, within, over, Book, Who, fresh, current, windows, closed, isCircuit, begins, wanted, seen, tickIn, armed, upIn, isClosing, tripOf, opened, withCount, withConnect, replied, answeredBy, inputTo, inputIn, wroteTo, wroteIn, note, notes}
 use Rattle.history.specs.Demand3.{ofWindow, due, longest, most, begun, windowsOf}
@@ -185,7 +186,7 @@ module _ (s : Settings) (who : Who) (h : Host) (deadline rounds : ℕ) (past : L
 
     answered-fine : (buffer : List ℕ) (kind : StreamInput) (bytes : List ℕ) → Fine (answeredBy s who h buffer kind bytes (at (asking x)) x)
     answered-fine buffer i.Ready bytes = f
-    answered-fine buffer i.Data bytes = replied-fine (broughtBy bytes buffer (x .count))
+    answered-fine buffer i.Data bytes = replied-fine (heard bytes buffer (x .count))
     answered-fine buffer i.RemoteWriteClosed bytes = wanted-fine s who h (at (asking x)) f
     answered-fine buffer i.Closed bytes = wanted-fine s who h (at (asking x)) f
 
@@ -295,11 +296,11 @@ pub bound : (source relay : PeerId) (circuit : ConnectionId) (s : Settings) (at 
 unfolding windowsOf
 bound source relay circuit s at xs =
     fine-bound s (notes s who (fresh s at) xs (refusals (begun source relay circuit s at) xs))
-    (notes-fine s who xs (refusals (begun source relay circuit s at) xs) (fresh s at) (fresh-fine (ltb (last - at) (s .handshake))))
+    (notes-fine s who xs (refusals (begun source relay circuit s at) xs) (fresh s at) (fresh-fine (ltb last (at + s .handshake))))
   where
     fresh-fine : (t : Bool) → Fine (record { stage = pick t over (handshaking (at + s .handshake)); deadline = 0; rounds = 0; past = [] })
     fresh-fine true = record { most = omega arith; room = omega arith; short = tt }
     fresh-fine false = record { most = omega arith; room = omega arith; short = tt }
 
     who : Who
-    who = record { source = source; circuit = circuit }
+    who = record { source = source; relay = relay; circuit = circuit }

@@ -7,7 +7,8 @@ use Rattle.schedule.specs.Instants.{halfOf, startOf, upto, instants, countIf, c
 use Rattle.schedule.specs.Schedule.{ahead, without, timesOf, dueOf, openedOf}
 use Rattle.schedule.specs.Schedule as schedule
 use Rattle.wire.specs.Frame.{frameFrom}
-use Rattle.wire.specs.Varint.{valueOf, spanOf, varintOf}
+use Rattle.wire.specs.Varint.{valueOf, spanOf, varintOf, groups}
+use Rattle.message.specs.Encoding.{addressFields}
 use Rattle.wire.specs.Lists.{along, listed}
 use Rattle.message.specs.Fields.{fieldOf}
 use Rattle.message.specs.Message.{scan}
@@ -15,7 +16,7 @@ use Rattle.initiator.specs.Gathering.{gathering}
 use Rattle.address.specs.Multiaddr.{bigEndian, hasForm, parsed}
 use Rattle.address.specs.Words.{globalUnicast4, mayBeTarget}
 use Rattle.candidates.specs.Entries.{count, only}
-use Rattle.candidates.specs.Selection.{selected, bounded, room}
+use Rattle.candidates.specs.Selection.{selected, own, once, bounded, room}
 use Rattle.rows.specs.Rows.{padded, tableOf, such}
 use Rattle.ledger.specs.Ledger.{emptyLedger, refusesPunches}
 use Rattle.inbound.specs.Answers.{noTargets, silence, eventOf, resetOf, burstOf, sendingOf, answerOf, quietOf, refusedOf}
@@ -23,10 +24,14 @@ use Rattle.inbound.specs.Brought.{broughtBy}
 use Rattle.inbound.specs.Circuit.{inPhase, exchangingOf, isLive, openRound, tickPunching, inUse, checkOf, announced, closing, inExchange, writeOf, firstInput, roundTrip, punchingOf, windowOf, openWindow, begunOf, startedOf, upOf, tickOf}
 use Rattle.inbound.specs.Input.{ownOf, targetsFrom, dataInput, exchangeInput, inputOf}
 use Rattle.schedule.specs.Readings.{counted}
+use Rattle.history.specs.Heard.{heard}
 use Rattle.history.specs.Calls.{toEach, copies, stepOf, refusals}
 use Rattle.history.specs.Book.{note, notes}
 use Rattle.history.specs.Demand3.{due, windowsOf}
-use Rattle.history.specs.Example.{source, relay, circuit, buffer, calls, each, expected}
+use Rattle.history.specs.Example.{source, relay, circuit, buffer, calls, each, expected, sayings, lots, lotsOf}
+use Rattle.history.specs.Tells.{tells, tellsAll}
+use Rattle.history.specs.Answers.{saidIs}
+use Rattle.history.specs.Refuses.{refuses, lendsBroken, lendsFull}
 use Rattle.history.specs.ThreeRounds as three
 use Rattle.history.specs.Example
 
@@ -39,5 +44,13 @@ unfolding plus armed mayBegin oneMore begun withExchange ended windowEnd upgrade
 three-rounds = refl
 
 pub three-windows : due three.settings (windowsOf source relay circuit three.settings 0 three.calls) ≡ three.all
-unfolding plus armed mayBegin oneMore begun withExchange ended windowEnd upgradeDue dueAt halfOf startOf upto instants countIf countTo ahead without timesOf dueOf openedOf schedule.windowOf frameFrom valueOf spanOf varintOf along listed fieldOf scan gathering bigEndian hasForm parsed globalUnicast4 mayBeTarget count only selected bounded room padded tableOf such emptyLedger refusesPunches noTargets silence eventOf resetOf burstOf sendingOf answerOf quietOf broughtBy inPhase exchangingOf isLive openRound tickPunching inUse checkOf announced closing inExchange writeOf firstInput roundTrip punchingOf windowOf openWindow begunOf upOf tickOf ownOf targetsFrom dataInput exchangeInput inputOf toEach copies stepOf buffer refusedOf startedOf refusals note notes counted due windowsOf three.calls
+unfolding plus armed mayBegin oneMore begun withExchange ended windowEnd upgradeDue dueAt halfOf startOf upto instants countIf countTo ahead without timesOf dueOf openedOf schedule.windowOf frameFrom valueOf spanOf varintOf along listed fieldOf scan gathering bigEndian hasForm parsed globalUnicast4 mayBeTarget count only selected bounded room padded tableOf such emptyLedger refusesPunches noTargets silence eventOf resetOf burstOf sendingOf answerOf quietOf broughtBy inPhase exchangingOf isLive openRound tickPunching inUse checkOf announced closing inExchange writeOf firstInput roundTrip punchingOf windowOf openWindow begunOf upOf tickOf ownOf targetsFrom dataInput exchangeInput inputOf toEach copies stepOf buffer refusedOf startedOf refusals note notes heard counted due windowsOf three.calls
 three-windows = refl
+
+pub example-said : saidIs Example.told ≡ sayings
+unfolding plus halfOf startOf upto instants countIf frameFrom valueOf spanOf varintOf along listed fieldOf scan gathering bigEndian hasForm parsed globalUnicast4 mayBeTarget count only selected bounded room padded tableOf such emptyLedger refusesPunches heard ownOf counted groups addressFields own once buffer calls note tells tellsAll refuses lendsBroken lendsFull saidIs
+example-said = refl
+
+pub example-lots : lotsOf Example.told ≡ lots
+unfolding plus halfOf startOf upto instants countIf frameFrom valueOf spanOf varintOf along listed fieldOf scan gathering bigEndian hasForm parsed globalUnicast4 mayBeTarget count only selected bounded room padded tableOf such emptyLedger refusesPunches heard ownOf counted groups addressFields own once buffer calls note tells tellsAll refuses lendsBroken lendsFull lotsOf
+example-lots = refl

@@ -1,4 +1,5 @@
 pub mod Datagrams
+pub mod Heard
 pub mod Relation
 pub mod Rounds
 pub mod Windows
@@ -9,4 +10,13 @@ pub mod Run
 pub mod Bound
 pub mod Refusals
 pub mod TurnedBack
+pub mod Refuses
+pub mod Told
+pub mod ToldInput
+pub mod Answers
+pub mod Buffers
+pub mod Extras
+pub mod Sound
+pub mod Promotes
+pub mod Questions
 pub mod Example

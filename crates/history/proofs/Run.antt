@@ -55,7 +55,7 @@ checked-input k b b′ c l buffer d r h false (Refused why) = refused-keeps k b 
 
 -- one call
 call-keeps : (k : Begun) (p : Phase) (g : UpgradeBudget) (m : Framed) (t : Chosen) (b : Book)
-    → Together (k .settings) g t (b .deadline) (b .rounds) p (b .stage) → (x : Call)
+    → Together (k .settings) g m t (b .deadline) (b .rounds) p (b .stage) → (x : Call)
     → Keeps k b (stepOf (circuitOf k p g m t) x) (note (k .settings) (whose k) b x)
 unfolding stepOf note upOf tickOf wroteOf inputOf
 call-keeps k p g m t b r (up l h peer conn relayed) =
@@ -72,7 +72,7 @@ call-keeps k p g m t b r (tick l h) =
 call-keeps k p g m t b r (wrote at conn stream) = wrote-keeps k g m t (b .deadline) (b .rounds) (b .past) at conn stream p (b .stage) r
 call-keeps k p g m t b r (down at peer conn) = down-keeps k g m t (b .deadline) (b .rounds) (b .past) conn p (b .stage) r
 
-step-keeps : (k : Begun) (c : InboundCircuit) (b : Book) → Rel k c b → (x : Call) → Keeps k b (stepOf c x) (note (k .settings) (whose k) b x)
+pub step-keeps : (k : Begun) (c : InboundCircuit) (b : Book) → Rel k c b → (x : Call) → Keeps k b (stepOf c x) (note (k .settings) (whose k) b x)
 step-keeps k c b r x =
     subst (λ (d : InboundCircuit). Keeps k b (stepOf d x) (note (k .settings) (whose k) b x)) (sym (r .shape))
     (call-keeps k (c .phase) (c .budget) (c .connect) (c .targets) b (r .together) x)
@@ -90,26 +90,30 @@ run-same k (x ∷ xs) c b r =
 
 -- a circuit has no window at first
 no-window : (s : Settings) (at : ℕ) → windows (fresh s at) ≡ []
-no-window s at = go (ltb (last - at) (s .handshake))
+no-window s at = go (ltb last (at + s .handshake))
   where
     go : (t : Bool) → current (pick t over (handshaking (at + s .handshake))) ≡ []
     go true = refl
     go false = refl
 
-pub same : (source relay : PeerId) (circuit : ConnectionId) (s : Settings) (at : ℕ) (xs : List Call)
-    → datagrams (begun source relay circuit s at) xs ≡ due s (windowsOf source relay circuit s at xs)
-unfolding windowsOf due begunOf startedOf
-same source relay circuit s at xs =
-    ap (λ (ws : List Window). due s ws ++ datagrams (begun source relay circuit s at) xs) (sym (no-window s at))
-    ∙ run-same k xs (begun source relay circuit s at) (fresh s at) (go (ltb (last - at) (s .handshake)))
+-- a circuit and its book begin together
+pub begun-rel : (source relay : PeerId) (circuit : ConnectionId) (s : Settings) (at : ℕ)
+    → Rel (record { source = source; relay = relay; circuit = circuit; settings = s }) (begun source relay circuit s at) (fresh s at)
+unfolding begunOf startedOf
+begun-rel source relay circuit s at = go (ltb last (at + s .handshake))
   where
-    k : Begun
-    k = record { source = source; relay = relay; circuit = circuit; settings = s }
-
     go : (t : Bool)
-        → Rel k
+        → Rel (record { source = source; relay = relay; circuit = circuit; settings = s })
         (pick {A = Started} t (record { circuit = begunOf source relay circuit s (Done false); outcome = outcome.Refused HandshakeTooLate })
         (record { circuit = newOf source relay circuit s at; outcome = outcome.Accepted }) .circuit)
         (record { stage = pick t over (handshaking (at + s .handshake)); deadline = 0; rounds = 0; past = [] })
     go true = record { shape = refl; together = at-end false }
     go false = record { shape = refl; together = in-handshake (at + s .handshake) }
+
+pub same : (source relay : PeerId) (circuit : ConnectionId) (s : Settings) (at : ℕ) (xs : List Call)
+    → datagrams (begun source relay circuit s at) xs ≡ due s (windowsOf source relay circuit s at xs)
+unfolding windowsOf due
+same source relay circuit s at xs =
+    ap (λ (ws : List Window). due s ws ++ datagrams (begun source relay circuit s at) xs) (sym (no-window s at))
+    ∙ run-same (record { source = source; relay = relay; circuit = circuit; settings = s }) xs (begun source relay circuit s at) (fresh s at)
+    (begun-rel source relay circuit s at)

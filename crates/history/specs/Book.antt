@@ -5,6 +5,7 @@ use Prim.Native.Nat.{ℕ, _+_, _-_, min}
 use mathlib.Core.Bool.{Bool, true, false}
 use mathlib.Core.List.{List, [], _∷_, _++_}
 use lib.Dec.{ltb, eqb}
+use lib.ListN.{take}
 use Rattle.prelude.specs.Choice.{pick, both}
 use Rattle.time.specs.Time.{last, plus}
 use Rattle.schedule.specs.Instants.{startOf}
@@ -22,8 +23,10 @@ use Rattle.inbound.specs.declared.StreamInput.{StreamInput}
 use Rattle.inbound.specs.declared.StreamInput.the-variants as i
 use Rattle.inbound.specs.declared.ConnectWrite.{ConnectWrite}
 use Rattle.inbound.specs.declared.ConnectWrite.the-variants.{Unsent, Held, Sent}
-use Rattle.inbound.specs.Brought.{Brought, unfinished, failed, connect, broughtBy}
+use Rattle.inbound.specs.Brought.{Brought, unfinished, failed, connect}
+use Rattle.initiator.specs.declared.Framed.{Framed}
 use Rattle.candidates.specs.Selection.{usual, selected}
+use Rattle.history.specs.Heard.{heard}
 use Rattle.history.specs.Calls.{Call, up, input, tick, wrote, down}
 
 -- a window, with the largest reading of its ticks
@@ -34,13 +37,14 @@ pub record Window : Type 0 where
   pub trip : ℕ
   pub largest : Largest
 
--- a running exchange: its pair, its end, the count of frame bytes, and how far CONNECT got
+-- a running exchange: its pair, its end, the count of frame bytes, how far CONNECT got, and its bytes
 pub record Asking : Type 0 where
   pub conn : ConnectionId
   pub stream : StreamId
   pub end : ℕ
   pub count : ℕ
   pub connect : ConnectWrite
+  pub message : List ℕ
 
 -- where the circuit stands; in the handshake, up to its end
 pub data Stage : Type 0 where
@@ -59,6 +63,7 @@ pub record Book : Type 0 where
 -- whose circuit it is
 pub record Who : Type 0 where
   pub source : PeerId
+  pub relay : PeerId
   pub circuit : ConnectionId
 
 -- ---- steps
@@ -66,7 +71,7 @@ pub record Who : Type 0 where
 -- a new circuit: the handshake's end is known, nothing else; where its start is refused (section 11.3) it is Done
 abbrev pub fresh : Settings → ℕ → Book
 fresh s at =
-    record { stage = pick (ltb (last - at) (s .handshake)) over (handshaking (at + s .handshake)); deadline = 0; rounds = 0; past = [] }
+    record { stage = pick (ltb last (at + s .handshake)) over (handshaking (at + s .handshake)); deadline = 0; rounds = 0; past = [] }
 
 abbrev pub inStage : Book → Stage → Book
 inStage b g = record { stage = g; deadline = b .deadline; rounds = b .rounds; past = b .past }
@@ -92,11 +97,22 @@ abbrev pub isCircuit : Who → Live → Bool
 isCircuit who live.Nothing = false
 isCircuit who (live.On conn) = eqb (conn .0) (who .circuit .0)
 
+-- the CONNECT of a round is that of the call that opens it
+abbrev pub bytesOf : Framed → List ℕ
+bytesOf m = take (m .len) (m .bytes)
+
 abbrev pub begins : Settings → Host → Book → Offer → Book
 begins s h b offer.Nothing = closed b
 begins s h b (offer.Stream conn stream) =
     record {
-      stage = asking (record { conn = conn; stream = stream; end = min (plus (h .at) (s .exchange)) (b .deadline); count = 0; connect = Unsent });
+      stage = asking (record {
+        conn = conn;
+        stream = stream;
+        end = min (plus (h .at) (s .exchange)) (b .deadline);
+        count = 0;
+        connect = Unsent;
+        message = bytesOf (h .own .connect);
+      });
       deadline = b .deadline;
       rounds = b .rounds + 1;
       past = windows b;
@@ -158,10 +174,10 @@ opened s deadline at trip list =
     }
 
 abbrev pub withCount : Asking → ℕ → Asking
-withCount x n = record { conn = x .conn; stream = x .stream; end = x .end; count = n; connect = x .connect }
+withCount x n = record { conn = x .conn; stream = x .stream; end = x .end; count = n; connect = x .connect; message = x .message }
 
 abbrev pub withConnect : Asking → ConnectWrite → Asking
-withConnect x w = record { conn = x .conn; stream = x .stream; end = x .end; count = x .count; connect = w }
+withConnect x w = record { conn = x .conn; stream = x .stream; end = x .end; count = x .count; connect = w; message = x .message }
 
 -- what the bytes brought: no whole frame yet, a failed round, or a window with the addresses chosen from the reply
 abbrev pub replied : Settings → Who → Host → Book → Asking → Brought → Book
@@ -173,7 +189,7 @@ replied s who h b x (connect addresses) =
 -- CONNECT has gone out before
 abbrev pub answeredBy : Settings → Who → Host → List ℕ → StreamInput → List ℕ → Book → Asking → Book
 answeredBy s who h buffer i.Ready bytes b x = b
-answeredBy s who h buffer i.Data bytes b x = replied s who h b x (broughtBy bytes buffer (x .count))
+answeredBy s who h buffer i.Data bytes b x = replied s who h b x (heard bytes buffer (x .count))
 answeredBy s who h buffer i.RemoteWriteClosed bytes b x = wanted s who h b
 answeredBy s who h buffer i.Closed bytes b x = wanted s who h b
 

@@ -16,6 +16,8 @@ use Rattle.inbound.specs.declared.StreamInput.the-variants.{Ready, Data}
 use Rattle.inbound.specs.Circuit.{newOf}
 use Rattle.inbound.specs.Input.{ownOf}
 use Rattle.history.specs.Calls.{Call, up, input, tick, Datagram, stepOf}
+use Rattle.history.specs.Book.{Who, fresh}
+use Rattle.history.specs.Tells.{Says, path, burst, send, reset, opens, Lot, stays, until, Told, sync, tellsAll}
 
 abbrev pub source : PeerId
 source = record { 0 = 5 }
@@ -80,3 +82,32 @@ expected = [] ∷ [] ∷ [] ∷ (datagram ∷ datagram ∷ []) ∷ (datagram ∷
 
 abbrev pub begun : InboundCircuit
 begun = newOf source relay circuit settings 0
+
+-- ---- what the book tells of it (section 12.8)
+
+-- CONNECT without an address, behind its length
+abbrev pub connectBytes : List ℕ
+connectBytes = 0x02 ∷ 0x08 ∷ 0x64 ∷ []
+
+abbrev pub sayings : List (List Says)
+sayings =
+    (path source relay circuit ∷ opens circuit (stream 4) ∷ [])
+    ∷ (send circuit (stream 4) connectBytes ∷ [])
+    ∷ (send circuit (stream 4) sync ∷ reset circuit (stream 4) ∷ [])
+    ∷ (burst 2 32 (address ∷ []) ∷ [])
+    ∷ (burst 1 32 (address ∷ []) ∷ opens circuit (stream 8) ∷ [])
+    ∷ []
+
+-- the source's window, which the reply opens to the deadline, 10010
+abbrev pub lots : List Lot
+lots = stays ∷ stays ∷ until 10010 ∷ stays ∷ stays ∷ []
+
+unfoldable pub lotsOf : List Told → List Lot
+lotsOf [] = []
+lotsOf (t ∷ ts) = t .lot ∷ lotsOf ts
+
+abbrev pub told : List Told
+told = tellsAll settings who (fresh settings 0) calls
+  where
+    who : Who
+    who = record { source = source; relay = relay; circuit = circuit }

@@ -1,7 +1,12 @@
 pub mod Calls
 pub mod Refusals
 pub mod Numbers
+pub mod Heard
 pub mod Book
 pub mod Demand3
+pub mod Refuses
+pub mod Tells
+pub mod Answers
+pub mod Questions
 pub mod Example
 pub mod ThreeRounds

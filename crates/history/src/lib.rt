@@ -11,7 +11,9 @@ ghost use Rattle.history.specs.Calls.{Call, stepOf};
 ghost use Rattle.history.specs.Refusals.{ChangesNothing};
 ghost use Rattle.history.specs.Numbers.{refusedWith, answeredWith};
 ghost use Rattle.history.specs.Demand3.{Demand3, due, windowsOf};
-ghost use Rattle.history.specs.Example.{source, relay, circuit, begun, calls, each, expected};
+ghost use Rattle.history.specs.Answers.{saidIs, EffectsByTheRule, LedgerByTheRule, BuffersByTheRule, RefusalsByTheRule, StartByTheRule, OwnList, DoneIsLast, ThreeEffects};
+ghost use Rattle.history.specs.Questions.{QuestionsByTheRule};
+ghost use Rattle.history.specs.Example.{source, relay, circuit, begun, calls, each, expected, sayings, lots, lotsOf, told};
 ghost use Rattle.history.specs.ThreeRounds as three;
 
 // The datagrams of all answers are those of the book's windows, and no more than the bound.
@@ -29,9 +31,60 @@ pub fn refused_by_the_rule()
     ensures { λ _. ⌜ ((c : InboundCircuit) (call : Call) → answeredWith c call ≡ refusedWith c call) ⌝ }
 {}
 
+// The effects of each answer are those that the book tells.
+pub fn effects_by_the_rule()
+    ensures { λ _. ⌜ EffectsByTheRule ⌝ }
+{}
+
+// Each call leaves of the ledger that it was lent what the book tells: as it was, or with the source's window removed, or opened to the deadline.
+pub fn ledger_by_the_rule()
+    ensures { λ _. ⌜ ((source relay : PeerId) (circuit : ConnectionId) (s : Settings) (at : ℕ) (calls : List Call) → LedgerByTheRule source relay circuit s at calls) ⌝ }
+{}
+
+// Each input leaves of the reply buffer that it was lent what the book tells.
+pub fn buffers_by_the_rule()
+    ensures { λ _. ⌜ BuffersByTheRule ⌝ }
+{}
+
+// Each call is refused with the number that the book gives, and only there.
+pub fn refusals_by_the_rule()
+    ensures { λ _. ⌜ ((source relay : PeerId) (circuit : ConnectionId) (s : Settings) (at : ℕ) (calls : List Call) → RefusalsByTheRule source relay circuit s at calls) ⌝ }
+{}
+
+// A start is refused with 3 where the reading and the handshake together pass the last time, and only there.
+pub fn start_by_the_rule()
+    ensures { λ _. ⌜ ((source relay : PeerId) (circuit : ConnectionId) (s : Settings) (at : ℕ) → StartByTheRule source relay circuit s at) ⌝ }
+{}
+
+// After any calls the next deadline and the claim on a connection are those that the book gives.
+pub fn questions_by_the_rule()
+    ensures { λ _. ⌜ ((source relay : PeerId) (circuit : ConnectionId) (s : Settings) (at : ℕ) (calls : List Call) → QuestionsByTheRule source relay circuit s at calls) ⌝ }
+{}
+
+// No call changes a circuit that is Done, or has an effect there.
+pub fn done_is_last()
+    ensures { λ _. ⌜ DoneIsLast ⌝ }
+{}
+
+// No answer has more than three effects.
+pub fn three_effects()
+    ensures { λ _. ⌜ ThreeEffects ⌝ }
+{}
+
+// Whether an own list is broken; its CONNECT carries the candidates chosen from it, behind its length.
+pub fn own_message()
+    ensures { λ _. ⌜ ((list : List ℕ) → OwnList list) ⌝ }
+{}
+
 // The datagrams of each answer of the worked example.
 pub fn worked_example()
     ensures { λ _. ⌜ each begun calls ≡ expected ⌝ }
+{}
+
+// What the book tells of the worked example.
+pub fn told_example()
+    ensures effects { λ _. ⌜ saidIs told ≡ sayings ⌝ }
+    ensures ledger { λ _. ⌜ lotsOf told ≡ lots ⌝ }
 {}
 
 // The datagrams of each answer of a list with three rounds, and those of its book's windows.

@@ -258,10 +258,10 @@ begunOf source relay circuit s p =
 abbrev pub newOf : PeerId → PeerId → ConnectionId → Settings → ℕ → InboundCircuit
 newOf source relay circuit s at = begunOf source relay circuit s (Handshaking (at + s .handshake))
 
--- start (section 11.3)
+-- start (section 11.3): refused where the plain sum of the reading and the handshake passes the last time
 unfoldable pub startedOf : PeerId → PeerId → ConnectionId → Settings → ℕ → Started
 startedOf source relay circuit s at =
-    pick (ltb (last - at) (s .handshake))
+    pick (ltb last (at + s .handshake))
     (record { circuit = begunOf source relay circuit s (Done false); outcome = outcome.Refused why.HandshakeTooLate })
     (record { circuit = newOf source relay circuit s at; outcome = outcome.Accepted })
 

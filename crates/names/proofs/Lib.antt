@@ -1,0 +1,4 @@
+pub mod Tallies
+pub mod Agrees
+pub mod Lines
+pub mod Sentences
