@@ -1,9 +1,10 @@
 // The time limits of an upgrade (budget.rs): its deadline, its rounds and the running exchange.
 ghost use mathlib.Core.Path.{_≡_};
 ghost use Prim.Native.Nat.{ℕ, _-_, _≤_};
-ghost use mathlib.Core.List.{[], _∷_};
+ghost use mathlib.Core.List.{List, [], _∷_};
 ghost use lib.Dec.{ltb};
 ghost use Rattle.budget.specs.Budget.{maxRounds, armed, mayBegin, begun, withExchange, ended, windowEnd, upgradeDue, dueAt, valuesOf, nextDeadline};
+ghost use Rattle.budget.specs.Due.{Due};
 
 // The exchange of a round: when it began and when it must be over.
 pub enum Exchange {
@@ -176,4 +177,9 @@ pub fn round_told()
 // An exchange that lasts to the deadline or past it gives the upgrade's timeout.
 pub fn deadline_first()
     ensures { λ r. ⌜ ((b : UpgradeBudget) (at started end : ℕ) → b .running ≡ Exchange.Running started end → b .deadline ≤ end → b .deadline ≤ at → valuesOf (dueAt b at) ≡ 2 ∷ (b .deadline - b .armed) ∷ []) ⌝ }
+{}
+
+// What is due is what section 8 of the rule says, in numbers: each answer just in its case.
+pub fn due_by_the_rule()
+    ensures { λ r. ⌜ ((b : UpgradeBudget) (at : ℕ) (v : List ℕ) → (valuesOf (dueAt b at) ≡ v → Due b at v) × (Due b at v → valuesOf (dueAt b at) ≡ v)) ⌝ }
 {}

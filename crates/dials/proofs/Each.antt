@@ -1,17 +1,13 @@
--- Steps along rows that each have a value beside them, and along the live connections. Assumes nothing.
+-- Steps along rows that each have a value beside them. Assumes nothing.
 use Prim.Native.Nat.{ℕ, zero, suc, _≤_, _<_, _+_}
 use mathlib.Core.Path.{_≡_, refl, ap, sym, _∙_}
-use mathlib.Core.Bool.{true, false}
 use mathlib.Core.List.{List, [], _∷_, _++_, append-assoc, append-nil, map}
 use native.Mathlib.Omega.{arith}
 use native.Mathlib.Numerals.{add-one}
 use native.Mathlib.Nat.{not-suc-le-zero, le-of-suc-le-suc}
-use lib.ListN.{length, getD, take, drop, length-take, drop-of-length-le}
-use lib.Seq.{take-suc, getD-take, drop-cons}
-use lib.Dec.{eqb}
-use Rattle.ids.specs.declared.PeerId.{PeerId}
-use Rattle.dials.specs.declared.FirstLive.the-variants.{None as NoLive, At as LiveAt}
-use Rattle.dials.specs.Dials.{each, pairs, firstOf}
+use lib.ListN.{length, getD, take, length-take}
+use lib.Seq.{take-suc, getD-take}
+use Rattle.dials.specs.Dials.{each, pairs}
 
 module _ {A B : Type 0} where
   pub length-pairs : (xs : List A) (ys : List B) → length xs ≤ length ys → length (pairs xs ys) ≡ length xs
@@ -48,21 +44,3 @@ module _ {A B C : Type 0} (f : A × B → List C) (xs : List A) (k i : ℕ) (ys 
       let g : getD (pairs (take k xs) ys) i (d, e) ≡ (getD xs i d, getD ys i e) = pairs-at (take k xs) ys i d e l h ∙ ap (λ (x : A). (x, getD ys i e)) (getD-take k xs i d b) in
       let t : take (i + 1) (pairs (take k xs) ys) ≡ take i (pairs (take k xs) ys) ++ ((getD xs i d, getD ys i e) ∷ []) = simp (add-one, take-suc (pairs (take k xs) ys) i (d, e) q, g) in
       ap (each f) t ∙ each-append f (take i (pairs (take k xs) ys)) ((getD xs i d, getD ys i e) ∷ []) ∙ simp append-nil
-
--- ---- the first record of a peer
-module _ (ps cs : List ℕ) (peer : PeerId) (i : ℕ) where
-  pub first-none : length ps ≤ i → firstOf (drop i ps) (drop i cs) peer ≡ NoLive
-  unfolding firstOf
-  first-none h = simp (drop-of-length-le ps h)
-
-  pub first-short : i < length ps → length cs ≤ i → firstOf (drop i ps) (drop i cs) peer ≡ NoLive
-  unfolding firstOf
-  first-short l h = simp (drop-of-length-le cs h, drop-cons ps i 0 l)
-
-  pub first-here : i < length ps → i < length cs → eqb (getD ps i 0) (peer .0) ≡ true → firstOf (drop i ps) (drop i cs) peer ≡ LiveAt (record { 0 = getD cs i 0 })
-  unfolding firstOf
-  first-here l h e = simp (drop-cons ps i 0 l, drop-cons cs i 0 h, e)
-
-  pub first-on : i < length ps → i < length cs → eqb (getD ps i 0) (peer .0) ≡ false → firstOf (drop i ps) (drop i cs) peer ≡ firstOf (drop (i + 1) ps) (drop (i + 1) cs) peer
-  unfolding firstOf
-  first-on l h e = simp (drop-cons ps i 0 l, drop-cons cs i 0 h, e, add-one)

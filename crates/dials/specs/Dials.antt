@@ -16,7 +16,6 @@ use Rattle.rows.specs.declared.Entry.{Entry}
 use Rattle.rows.specs.declared.Entry.the-variants.{Free, Dialed, Window}
 use Rattle.rows.specs.declared.Entry.the-variants.{Path as PathEntry}
 use Rattle.rows.specs.declared.Row.{Row}
-use Rattle.rows.specs.declared.Table.{Table}
 use Rattle.rows.specs.Rows.{padded, tableOf}
 use Rattle.dials.specs.declared.FirstLive.{FirstLive}
 use Rattle.dials.specs.declared.FirstLive.the-variants.{None as NoLive, At as LiveAt}
@@ -29,12 +28,6 @@ use Rattle.dials.specs.declared.Connections.{Connections}
 use Rattle.dials.specs.declared.Dropped.{Dropped}
 
 -- ---- the live connections
--- the connection of the first record that has the peer; a record is a place of both lists
-unfoldable pub firstOf : List ℕ → List ℕ → PeerId → FirstLive
-firstOf [] cs peer = NoLive
-firstOf (p ∷ ps) [] peer = NoLive
-firstOf (p ∷ ps) (c ∷ cs) peer = pick (eqb p (peer .0)) (LiveAt (record { 0 = c })) (firstOf ps cs peer)
-
 -- the peer to ask for: the relay of a relay dial, else the attempt's target
 unfoldable pub askedBy : DialPurpose → PeerId → PeerId
 askedBy (Relay attempt relay) target = relay
@@ -54,9 +47,6 @@ askedOf target row = askedEntry (row .entry) target
 -- what is found for a row
 unfoldable pub firstFor : PeerId → (PeerId → FirstLive) → Row → First
 firstFor target first row = record { live = first (askedOf target row) }
-
-unfoldable pub firstsOf : PeerId → (PeerId → FirstLive) → Table → Firsts
-firstsOf target first dials = record { rows = map (firstFor target first) (dials .rows) }
 
 abbrev pub noFirst : First
 noFirst = record { live = NoLive }

@@ -2,7 +2,7 @@
 ghost use mathlib.Core.Path.{_≡_};
 ghost use mathlib.Core.List.{[]};
 ghost use Rattle.rows.specs.Rows.{rowsOf, tableOf};
-ghost use Rattle.dials.specs.Dials.{tokensOf, connectionsOf, noFirsts, askedBy, askedOf, firstOf, firstsOf, isFirst, fateOf, fateAt, each, pairs, leftOf, retiredOf, closedOf, abortWith, abortOf};
+ghost use Rattle.dials.specs.Dials.{tokensOf, connectionsOf, noFirsts, askedBy, askedOf, isFirst, fateOf, fateAt, each, pairs, leftOf, retiredOf, closedOf, abortWith};
 use ids::ConnectId;
 use ids::ConnectionId;
 use ids::NatToken;
@@ -112,39 +112,6 @@ pub fn asked_of(row: Row, target: PeerId) -> PeerId
         Entry::Window(_) => target,
         Entry::Path(_) => target,
     }
-}
-
-// The connection of the first record that has the peer. A record is a place of both lists.
-fn first_of(peers: &[u64], connections: &[u64], peer: PeerId) -> FirstLive
-    ensures { λ r. ⌜ r ≡ firstOf (now (peers .entry)) (now (connections .entry)) peer ⌝ }
-{
-    let mut i: usize = 0;
-    while i < peers.len() {
-        if connections.len() <= i {
-            return FirstLive::None;
-        }
-        if peers[i] == peer.0 {
-            return FirstLive::At(ConnectionId(connections[i]));
-        }
-        i += 1;
-    }
-    FirstLive::None
-}
-
-fn firsts_of(dials: Table, target: PeerId, peers: &[u64], connections: &[u64]) -> Firsts
-    ensures { λ r. ⌜ r ≡ firstsOf target (firstOf (now (peers .entry)) (now (connections .entry))) dials ⌝ }
-{
-    let none = no_firsts();
-    let mut rows = none.rows;
-    let mut k: usize = 0;
-    while k < 64 {
-        let row = dials.rows[k];
-        let live = first_of(peers, connections, asked_of(row, target));
-        let first = First { live };
-        rows[k] = first;
-        k += 1;
-    }
-    Firsts { rows }
 }
 
 fn is_first(live: FirstLive, conn: u64) -> bool
@@ -306,18 +273,4 @@ pub fn abort_with(dials: Table, id: ConnectId, firsts: Firsts) -> Dropped
         retired: retired_of(dials, id, firsts),
         close: closed_of(dials, id, firsts),
     }
-}
-
-// Drops the dials of the attempt. The live connections come as two lists of numbers, a place of both being one record.
-pub fn abort_attempt_dials(
-    dials: Table,
-    id: ConnectId,
-    target: PeerId,
-    peers: &[u64],
-    connections: &[u64],
-) -> Dropped
-    ensures { λ r. ⌜ r ≡ abortOf id target (firstOf (now (peers .entry)) (now (connections .entry))) (rowsOf dials) ⌝ }
-{
-    let firsts = firsts_of(dials, target, peers, connections);
-    abort_with(dials, id, firsts)
 }

@@ -1,7 +1,6 @@
 // The path ledger (ledger.rs): the one place that decides by which path a connection came, and that knows why it was dialed.
 ghost use mathlib.Core.Path.{_≡_};
-ghost use Rattle.dials.specs.Dials.{firstOf};
-ghost use Rattle.ledger.specs.Ledger.{emptyLedger, withDials, withWindows, withPaths, dialStarted, finishDial, withDropped, abortedWith, abortedDials, refusesPunches, expectPunches, endPunches, judgedBy, attributed, replacedBy, forgotten, isPunched, ticked, nextDeadline, isQuiet};
+ghost use Rattle.ledger.specs.Ledger.{emptyLedger, withDials, withWindows, withPaths, dialStarted, finishDial, withDropped, abortedWith, refusesPunches, expectPunches, endPunches, judgedBy, attributed, replacedBy, forgotten, isPunched, ticked, nextDeadline, isQuiet};
 use dials::Connections;
 use dials::Dropped;
 use dials::Firsts;
@@ -173,21 +172,6 @@ impl PathLedger {
     {
         let dials = self.dials;
         self.with_dropped(dials::abort_with(dials, id, firsts))
-    }
-
-    // Drops the dials of the attempt that connects to the target. The live connections come as two lists of numbers, a place of
-    // both being one record. A dial whose connection is its peer's first live one is not closed; a punch dial then keeps its row.
-    pub fn abort_attempt_dials(
-        self,
-        id: ConnectId,
-        target: PeerId,
-        peers: &[u64],
-        connections: &[u64],
-    ) -> Aborted
-        ensures { λ r. ⌜ r ≡ abortedDials self id target (firstOf (now (peers .entry)) (now (connections .entry))) ⌝ }
-    {
-        let dials = self.dials;
-        self.with_dropped(dials::abort_attempt_dials(dials, id, target, peers, connections))
     }
 
     // Whether `expect_punches` for the peer would be refused.

@@ -1,16 +1,15 @@
 // Makes the calls of `ledger` that stand on standard input, a line for a line, on one ledger. README.md has the lines.
 ghost use mathlib.Core.Path.{_≡_};
-ghost use mathlib.Core.Bool.{true, false};
 ghost use Prim.Native.Nat.{_≤_};
-ghost use lib.ListN.{length};
+ghost use lib.ListN.{length, take};
 ghost use Rattle.text.specs.Printed.{printed, behind};
-ghost use Rattle.ledger_lines.specs.Values.{numbersOf};
-ghost use Rattle.ledger_calls.specs.Replies.{abortedBy, wholeLength, liveOf, ledgerAfter, replyText};
+ghost use Rattle.ledger_calls.specs.Replies.{abortedBy, wholeLength, ledgerAfter, replyText};
 use ids::ConnectId;
 use ids::PeerId;
 use ledger::Aborted;
 use ledger::PathLedger;
 use ledger_lines::Abort;
+use live_dials::Live;
 
 // ---- what is answered to a line
 
@@ -20,37 +19,19 @@ pub struct Answered {
     pub end: usize,
 }
 
-// Drops an attempt's dials, where the live connections stand as records in a text.
-fn abort(
-    l: PathLedger,
-    id: ConnectId,
-    target: PeerId,
-    live: &[u8],
-    peers: &mut [u64],
-    connections: &mut [u64],
-) -> Aborted
-    ensures dropped { λ r. ⌜ r ≡ abortedBy l id target (now (live .entry)) (length (now (peers .entry))) (length (now (connections .entry))) ⌝ }
-    ensures peers { λ r. ⌜ now (peers .exit) ≡ printed (now (peers .entry)) 0 (numbersOf false (now (live .entry))) ⌝ }
-    ensures connections { λ r. ⌜ now (connections .exit) ≡ printed (now (connections .entry)) 0 (numbersOf true (now (live .entry))) ⌝ }
+// Drops an attempt's dials, over the first n records. It makes a reference to records, so it is proved by hand.
+fn abort(l: PathLedger, id: ConnectId, target: PeerId, rows: [Live; 8192], n: usize) -> Aborted
+    requires { ⌜ n ≤ 8192 ⌝ }
+    ensures { λ r. ⌜ r ≡ abortedBy l id target (take n rows) ⌝ }
 {
-    let n = ledger_lines::read_numbers(live, false, peers);
-    let m = ledger_lines::read_numbers(live, true, connections);
-    l.abort_attempt_dials(id, target, &peers[..n], &connections[..m])
+    live_dials::abort_attempt_dials(l, id, target, &rows[..n])
 }
 
-// Answers a line without its line feed. The live connections of an abort are read into the two lists of numbers.
-fn answer(
-    l: PathLedger,
-    line: &[u8],
-    peers: &mut [u64],
-    connections: &mut [u64],
-    out: &mut [u8],
-) -> Answered
-    ensures ledger { λ r. ⌜ r .ledger ≡ ledgerAfter l (now (line .entry)) (length (now (peers .entry))) (length (now (connections .entry))) ⌝ }
-    ensures bytes { λ r. ⌜ now (out .exit) ≡ printed (now (out .entry)) 0 (replyText l (now (line .entry)) (length (now (peers .entry))) (length (now (connections .entry)))) ⌝ }
-    ensures place { λ r. ⌜ r .end ≡ behind (now (out .entry)) 0 (replyText l (now (line .entry)) (length (now (peers .entry))) (length (now (connections .entry)))) ⌝ }
-    ensures peers { λ r. ⌜ now (peers .exit) ≡ printed (now (peers .entry)) 0 (numbersOf false (liveOf (now (line .entry)))) ⌝ }
-    ensures connections { λ r. ⌜ now (connections .exit) ≡ printed (now (connections .entry)) 0 (numbersOf true (liveOf (now (line .entry)))) ⌝ }
+// Answers a line without its line feed.
+fn answer(l: PathLedger, line: &[u8], out: &mut [u8]) -> Answered
+    ensures ledger { λ r. ⌜ r .ledger ≡ ledgerAfter l (now (line .entry)) ⌝ }
+    ensures bytes { λ r. ⌜ now (out .exit) ≡ printed (now (out .entry)) 0 (replyText l (now (line .entry))) ⌝ }
+    ensures place { λ r. ⌜ r .end ≡ behind (now (out .entry)) 0 (replyText l (now (line .entry))) ⌝ }
 {
     let found = ledger_lines::read_abort(line);
     match found {
@@ -60,7 +41,9 @@ fn answer(
             start,
             end,
         } => {
-            let a = abort(l, id, target, &line[start..end], peers, connections);
+            let live = ledger_lines::read_lives(&line[start..end]);
+            let rows = live.rows;
+            let a = abort(l, id, target, rows, live.n);
             let retired = a.retired;
             let close = a.close;
             let after = a.ledger;
@@ -107,8 +90,6 @@ pub struct Step {
 fn answer_next(
     block: &mut [u8],
     line: &mut [u8],
-    peers: &mut [u64],
-    connections: &mut [u64],
     out: &mut [u8],
     from: usize,
     until: usize,
@@ -124,7 +105,7 @@ fn answer_next(
         };
     }
     let n = whole_length(line.len(), s.used, s.ended);
-    let a = answer(l, &line[..n], peers, connections, out);
+    let a = answer(l, &line[..n], out);
     let after = a.ledger;
     if !line_program::print(out, a.end) {
         s.more = false;
@@ -136,13 +117,7 @@ fn answer_next(
 }
 
 // A proved loop has to end, so it counts its turns down from a number that no run uses up.
-fn run(
-    block: &mut [u8],
-    line: &mut [u8],
-    peers: &mut [u64],
-    connections: &mut [u64],
-    out: &mut [u8],
-)
+fn run(block: &mut [u8], line: &mut [u8], out: &mut [u8])
     ensures { λ _. ⌜ length (now (out .exit)) ≡ length (now (out .entry)) ⌝ }
 {
     let mut from: usize = 0;
@@ -151,7 +126,7 @@ fn run(
     let mut l = PathLedger::empty();
     let mut turns = u64::MAX;
     while 0 < turns && more {
-        let s = answer_next(block, line, peers, connections, out, from, until, l);
+        let s = answer_next(block, line, out, from, until, l);
         from = s.reading.from;
         until = s.reading.until;
         more = s.reading.more;
@@ -160,18 +135,9 @@ fn run(
     }
 }
 
-// A line has fewer than 8192 records: each takes four bytes.
 fn main() {
     let mut block = io::large_buffer();
     let mut line = [0u8; 32768];
-    let mut peers = [0u64; 8192];
-    let mut connections = [0u64; 8192];
     let mut out = io::large_buffer();
-    run(
-        &mut block,
-        &mut line,
-        &mut peers,
-        &mut connections,
-        &mut out,
-    );
+    run(&mut block, &mut line, &mut out);
 }

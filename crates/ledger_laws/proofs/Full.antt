@@ -1,4 +1,4 @@
--- Refused just at the 65th row. Assumes nothing.
+-- Refused just at the 65th row; and never where no row is needed. Assumes nothing.
 use Prim.Native.Nat.{ℕ, _≤_}
 use mathlib.Core.Path.{_≡_, refl, ap, sym, _∙_}
 use mathlib.Core.Bool.{Bool, true, false}
@@ -14,6 +14,9 @@ use Rattle.ids.specs.declared.NatToken.{NatToken}
 use Rattle.path.specs.declared.Attribution.{Attribution}
 use Rattle.path.specs.declared.DialPurpose.{DialPurpose}
 use Rattle.path.specs.declared.Claim.{Claim}
+use Rattle.path.specs.declared.Claim.the-variants.{Circuit, Direct as DirectClaim, None as NoClaim}
+use Rattle.path.specs.declared.Owner.{Owner}
+use Rattle.path.specs.Judged.{judged, circuitPath}
 use Rattle.path.specs.declared.FoundPath.{FoundPath}
 use Rattle.path.specs.declared.FoundPath.the-variants.{At as PathAt, None as NoPath}
 use Rattle.rows.specs.Rows.{tableOf, inserted, crowded}
@@ -22,7 +25,7 @@ use Rattle.entries.specs.Entries.{punchEnd}
 use Rattle.ledger.specs.declared.PathLedger.{PathLedger}
 use Rattle.ledger.specs.declared.Attributed.{Attributed}
 use Rattle.ledger.specs.declared.Outcome.the-variants.{Refused}
-use Rattle.ledger.specs.declared.Answer.the-variants.{Path as Named, Refused as NotNamed}
+use Rattle.ledger.specs.declared.Answer.the-variants.{Path as Named, None as Unnamed, Refused as NotNamed}
 use Rattle.ledger.specs.Ledger.{dialsOf, windowsOf, pathsOf, withDials, withWindows, withPaths, dialRow, windowRow, pathRow, fullOr, dialStarted, refusesPunches, expectPunches, judgedBy, recorded, attributed}
 use Rattle.ledger_laws.specs.Laws.{Needs65}
 
@@ -83,3 +86,11 @@ paths-full l h conn peer circuit claim now = (
   recorded-full l h conn (judgedBy l conn peer circuit claim now),
   λ a e n. ap (λ (f : FoundPath). recorded l conn f .answer) e ∙ unnamed-when (crowded (conn .0) (pathsOf l)) l conn a (is-crowded (conn .0) (pathsOf l) (n .0) (n .1)),
 )
+
+-- a circuit without a circuit's claim needs no row
+pub no-row : (l : PathLedger) (conn : ConnectionId) (peer : PeerId) (claim : Claim) (now : ℕ) → ((relay : PeerId) (owner : Owner) → claim ≡ Circuit relay owner → ⊥)
+    → (attributed l conn peer true claim now .answer ≡ Unnamed) × (attributed l conn peer true claim now .ledger ≡ l)
+unfolding attributed judgedBy judged circuitPath
+no-row l conn peer NoClaim now n = (refl, refl)
+no-row l conn peer (Circuit relay owner) now n = absurd (n relay owner refl)
+no-row l conn peer (DirectClaim id) now n = (refl, refl)

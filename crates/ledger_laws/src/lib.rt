@@ -13,13 +13,15 @@ ghost use Rattle.ids.specs.declared.NatToken.{NatToken};
 ghost use Rattle.path.specs.declared.DialPurpose.{DialPurpose};
 ghost use Rattle.path.specs.declared.Attribution.{Attribution};
 ghost use Rattle.path.specs.declared.Claim.{Claim};
+ghost use Rattle.path.specs.declared.Claim.the-variants.{Circuit};
+ghost use Rattle.path.specs.declared.Owner.{Owner};
 ghost use Rattle.path.specs.declared.FoundPath.the-variants.{At as PathAt};
 ghost use Rattle.rows.specs.declared.Row.{Row};
 ghost use Rattle.rows.specs.declared.Found.the-variants.{Nothing};
 ghost use Rattle.rows.specs.Rows.{findIn, lasts};
 ghost use Rattle.entries.specs.Entries.{dialAt, pathAt, windowOpen};
 ghost use Rattle.ledger.specs.declared.PathLedger.{PathLedger};
-ghost use Rattle.ledger.specs.declared.Answer.the-variants.{Path as Named, Refused as NotNamed};
+ghost use Rattle.ledger.specs.declared.Answer.the-variants.{Path as Named, None as Unnamed, Refused as NotNamed};
 ghost use Rattle.ledger.specs.declared.Outcome.the-variants.{Refused};
 ghost use Rattle.ledger.specs.Ledger.{emptyLedger, dialsOf, windowsOf, pathsOf, dialStarted, expectPunches, endPunches, ticked, judgedBy, attributed, forgotten};
 ghost use Rattle.ledger_laws.specs.Calls.{Call, afterAll};
@@ -66,4 +68,9 @@ pub fn refused_at_the_65th_row()
     ensures dials { λ r. ⌜ ((l : PathLedger) → length (dialsOf l) ≤ 64 → (conn : ConnectionId) (token : NatToken) (purpose : DialPurpose) → ((why : Refusal) → dialStarted l conn token purpose .outcome ≡ Refused why → (numberOf why ≡ 4) × (dialStarted l conn token purpose .ledger ≡ l) × Needs65 (conn .0) (dialsOf l)) × (Needs65 (conn .0) (dialsOf l) → dialStarted l conn token purpose .outcome ≡ Refused LedgerFull)) ⌝ }
     ensures windows { λ r. ⌜ ((l : PathLedger) → length (windowsOf l) ≤ 64 → (peer : PeerId) (until : ℕ) → ((why : Refusal) → expectPunches l peer until .outcome ≡ Refused why → (numberOf why ≡ 4) × (expectPunches l peer until .ledger ≡ l) × Needs65 (peer .0) (windowsOf l)) × (Needs65 (peer .0) (windowsOf l) → expectPunches l peer until .outcome ≡ Refused LedgerFull)) ⌝ }
     ensures paths { λ r. ⌜ ((l : PathLedger) → length (pathsOf l) ≤ 64 → (conn : ConnectionId) (peer : PeerId) (circuit : Bool) (claim : Claim) (now : ℕ) → ((why : Refusal) → attributed l conn peer circuit claim now .answer ≡ NotNamed why → (numberOf why ≡ 4) × (attributed l conn peer circuit claim now .ledger ≡ l) × Needs65 (conn .0) (pathsOf l)) × ((a : Attribution) → judgedBy l conn peer circuit claim now ≡ PathAt a → Needs65 (conn .0) (pathsOf l) → attributed l conn peer circuit claim now .answer ≡ NotNamed LedgerFull)) ⌝ }
+{}
+
+// A circuit without a circuit's claim gets no row, also where 64 stand in the table: nothing is refused, and the ledger is as it was.
+pub fn no_claim_no_row()
+    ensures { λ r. ⌜ ((l : PathLedger) (conn : ConnectionId) (peer : PeerId) (claim : Claim) (now : ℕ) → ((relay : PeerId) (owner : Owner) → claim ≡ Circuit relay owner → ⊥) → (attributed l conn peer true claim now .answer ≡ Unnamed) × (attributed l conn peer true claim now .ledger ≡ l)) ⌝ }
 {}

@@ -1,19 +1,22 @@
 -- The records of a text, one after the other. Assumes nothing.
-use mathlib.Core.Path.{_≡_, refl, ap, subst, _∙_}
-use mathlib.Core.List.{List, [], _∷_}
+use mathlib.Core.Path.{_≡_, refl, sym, ap, _∙_}
+use mathlib.Core.List.{List, [], _∷_, _++_, append-nil, append-assoc}
 use mathlib.Core.Bool.{Bool, true, false}
 use Prim.Native.Nat.{ℕ, suc, _+_, _-_, _<_, _≤_}
 use native.Mathlib.Omega.{arith}
 use lib.Dec.{eqb}
-use lib.ListN.{length, take, drop, length-drop}
-use lib.Seq.{drop-drop}
+use lib.ListN.{length, take, drop, set, replicate, length-drop, length-append}
+use lib.Seq.{drop-drop, take-all, take-append-seam, set-append-seam}
 use borrow.Author.Tests.{eqb-true, eqb-false}
 use Rattle.prelude.specs.Choice.{pick}
 use Rattle.text.specs.Words.{lengthBefore}
 use Rattle.text.proofs.Reading.{before-within}
-use Rattle.text.proofs.Printing.{Laid, Left, left-none, left-more, rest-of}
+use Rattle.text.proofs.Printing.{rest-of}
 use Rattle.fields.specs.Fields.{part}
-use Rattle.ledger_lines.specs.Values.{recordOf, recordAt, before, between, allRecords, numbersIn}
+use Rattle.ledger_lines.specs.Values.{recordOf, recordAt, before, between, allRecords, recordsIn, placed, livesOf}
+use Rattle.live_dials.specs.declared.Live.{Live}
+use Rattle.live_dials.specs.First.{no-live}
+use Rattle.ledger_lines.specs.declared.Lives.{Lives}
 use Rattle.ledger_lines.specs.declared.Record.{Record}
 use Rattle.ledger_lines.specs.declared.Record.the-variants.{Good, Bad}
 use Rattle.ledger_lines.specs.declared.RecordAt.{RecordAt}
@@ -92,7 +95,7 @@ module _ (value : List ℕ) (i : ℕ) (h : i ≤ length value) {r : RecordAt} (e
   unfolding allRecords
   bad-record b = at-any _ λ ts s. rw (s, ← found-at, b)
 
-  module _ {p c : ℕ} (g : r .found ≡ Good p c) where
+  module _ {x : Live} (g : r .found ≡ Good x) where
     pub last-record : r .end ≡ length value → allRecords (between (drop i value)) ≡ true
     unfolding allRecords
     last-record l = rw (at-last l, ← found-at, g)
@@ -101,29 +104,65 @@ module _ (value : List ℕ) (i : ℕ) (h : i ≤ length value) {r : RecordAt} (e
     unfolding allRecords
     next-record l = rw (at-more l, ← found-at, g)
 
-  -- ---- their numbers
+  -- ---- which they are
 
-  module _ (connections : Bool) where
-    pub no-number : r .found ≡ Bad → numbersIn connections (between (drop i value)) ≡ []
-    unfolding numbersIn
-    no-number b = at-any _ λ ts s. rw (s, ← found-at, b)
+  pub no-record : r .found ≡ Bad → recordsIn (between (drop i value)) ≡ []
+  unfolding recordsIn
+  no-record b = at-any _ λ ts s. rw (s, ← found-at, b)
 
-    module _ {p c : ℕ} (g : r .found ≡ Good p c) where
-      last-number : r .end ≡ length value → numbersIn connections (between (drop i value)) ≡ pick connections c p ∷ []
-      unfolding numbersIn
-      last-number l = rw (at-last l, ← found-at, g)
+  module _ {x : Live} (g : r .found ≡ Good x) where
+    pub last-live : r .end ≡ length value → recordsIn (between (drop i value)) ≡ x ∷ []
+    unfolding recordsIn
+    last-live l = rw (at-last l, ← found-at, g)
 
-      next-number : (r .end ≡ length value → ⊥) → numbersIn connections (between (drop i value)) ≡ pick connections c p ∷ numbersIn connections (between (drop (r .end + 1) value))
-      unfolding numbersIn
-      next-number l = rw (at-more l, ← found-at, g)
+    pub next-live : (r .end ≡ length value → ⊥) → recordsIn (between (drop i value)) ≡ x ∷ recordsIn (between (drop (r .end + 1) value))
+    unfolding recordsIn
+    next-live l = rw (at-more l, ← found-at, g)
 
-      pub last-laid : {o all x y : List ℕ} {q s v : ℕ} → v ≡ pick connections c p → r .end ≡ length value
-          → Left o 0 x q (numbersIn connections (between (drop i value))) all → Laid x q (v ∷ []) y s → Laid o 0 all y s
-      last-laid {o} {all} {x} {q} k l a b =
-          left-none refl (left-more (subst (λ (u : List ℕ). Left o 0 x q u all) (last-number l ∙ rw (← k)) a) b)
+-- ---- the places that they are put into
 
-      pub next-laid : {o all x y : List ℕ} {q s v : ℕ} → v ≡ pick connections c p → (r .end ≡ length value → ⊥)
-          → Left o 0 x q (numbersIn connections (between (drop i value))) all → Laid x q (v ∷ []) y s
-          → Left o 0 y s (numbersIn connections (between (drop (r .end + 1) value))) all
-      next-laid {o} {all} {x} {q} k l a b =
-          left-more (subst (λ (u : List ℕ). Left o 0 x q u all) (next-number l ∙ rw (← k)) a) b
+-- n records of a text stand in the places, and others are left
+pub record Placing (value : List ℕ) (rows : List Live) (n : ℕ) (left : List Live) : Type 0 where
+  pub done : List Live
+  pub count : n ≡ length done
+  pub some : n ≤ 8192
+  pub rows-are : rows ≡ placed done
+  pub all : recordsIn (between value) ≡ done ++ left
+
+pub place-none : (value rows : _) → rows ≡ replicate 8192 no-live → Placing value rows 0 (recordsIn (between value))
+place-none value rows e = record { done = []; count = refl; some = omega arith; rows-are = e; all = refl }
+
+module _ {value : List ℕ} {rows : List Live} {n : ℕ} {left : List Live} (p : Placing value rows n left) where
+  pub place-more : (x : Live) {rest : List Live} → left ≡ x ∷ rest → n < 8192 → Placing value (set rows n x) (n + 1) rest
+  place-more x {rest} e h =
+      let d = p .done in
+      let c = p .count in
+      let k : 8192 - length d ≡ suc (8191 - length d) = omega arith in
+      let m : length (d ++ (x ∷ [])) ≡ length d + 1 = length-append d (x ∷ []) in
+      let j : 8192 - length (d ++ (x ∷ [])) ≡ 8191 - length d = omega arith in
+      record {
+        done = d ++ (x ∷ []);
+        count = omega arith;
+        some = omega arith;
+        rows-are = rw (p .rows-are, c, k, j, set-append-seam d no-live (replicate (8191 - length d) no-live) x) (sym (append-assoc d (x ∷ []) (replicate (8191 - length d) no-live)));
+        all = p .all ∙ rw e (sym (append-assoc d (x ∷ []) rest));
+      }
+
+  -- none is left, or there is no place for it
+  pub placed-all : left ≡ [] → _≡_ {A = Lives} (record { rows = rows; n = n }) (livesOf value)
+  unfolding livesOf
+  placed-all e =
+      let c = p .count in
+      let s = p .some in
+      let a : recordsIn (between value) ≡ p .done = p .all ∙ rw e (append-nil (p .done)) in
+      let t : take 8192 (p .done) ≡ p .done = take-all 8192 (p .done) (omega arith) in
+      rw (a, t, p .rows-are, c)
+
+  pub placed-full : 8192 ≤ n → _≡_ {A = Lives} (record { rows = rows; n = n }) (livesOf value)
+  unfolding livesOf
+  placed-full h =
+      let c = p .count in
+      let s = p .some in
+      let l : 8192 ≡ length (p .done) = omega arith in
+      let t : take 8192 (p .done ++ left) ≡ p .done = rw l (take-append-seam (p .done) left) in
+      rw (p .all, t, p .rows-are, c)

@@ -1,8 +1,8 @@
 -- The values of the lines (README.md of `ledger_calls`).
-use Prim.Native.Nat.{ℕ, _+_}
-use mathlib.Core.List.{List, [], _∷_}
+use Prim.Native.Nat.{ℕ, _+_, _-_}
+use mathlib.Core.List.{List, [], _∷_, _++_}
 use mathlib.Core.Bool.{Bool, true, false}
-use lib.ListN.{length, take, drop}
+use lib.ListN.{length, take, drop, replicate}
 use lib.Dec.{eqb, leb}
 use Rattle.prelude.specs.Choice.{pick, both, either}
 use Rattle.text.specs.Words.{ascii, begins, isWord, lengthBefore}
@@ -16,6 +16,9 @@ use Rattle.path.specs.declared.Owner.the-variants as owner
 use Rattle.path.specs.declared.Path.the-variants as path
 use Rattle.path.specs.declared.Claim.the-variants as claim
 use Rattle.path.specs.declared.DialPurpose.the-variants as purpose
+use Rattle.live_dials.specs.declared.Live.{Live}
+use Rattle.live_dials.specs.First.{no-live}
+use Rattle.ledger_lines.specs.declared.Lives.{Lives}
 use Rattle.ledger_lines.specs.declared.Record.{Record}
 use Rattle.ledger_lines.specs.declared.Record.the-variants as rec
 use Rattle.ledger_lines.specs.declared.RecordAt.{RecordAt}
@@ -32,7 +35,7 @@ use Rattle.ledger_lines.specs.declared.PurposeField.the-variants as purp
 
 -- a record: two numbers with a colon, 58, between
 abbrev pub paired : Number → Number → Record
-paired (num.Value a) (num.Value b) = rec.Good a b
+paired (num.Value a) (num.Value b) = rec.Good (record { peer = record { 0 = a }; connection = record { 0 = b } })
 paired (num.Value a) num.Bad = rec.Bad
 paired num.Bad b = rec.Bad
 
@@ -61,7 +64,7 @@ between [] = [] ∷ []
 between (b ∷ s) = pick (eqb b 44) ([] ∷ between s) (before b (between s))
 
 abbrev pub isRecord : Record → Bool
-isRecord (rec.Good peer connection) = true
+isRecord (rec.Good live) = true
 isRecord rec.Bad = false
 
 -- each is a record
@@ -75,18 +78,25 @@ recordsFrom value = allRecords (between value)
 unfoldable pub isLive : List ℕ → Bool
 isLive value = either (isWord (ascii "-") value) (recordsFrom value)
 
--- a record's connection or its peer, and the rest behind it; where there is no record the list ends
-abbrev pub numberThen : Bool → Record → List ℕ → List ℕ
-numberThen connections (rec.Good peer connection) rest = pick connections connection peer ∷ rest
-numberThen connections rec.Bad rest = []
+-- a record, and the rest behind it; where there is no record the list ends
+abbrev pub recordThen : Record → List Live → List Live
+recordThen (rec.Good live) rest = live ∷ rest
+recordThen rec.Bad rest = []
 
-unfoldable pub numbersIn : Bool → List (List ℕ) → List ℕ
-numbersIn connections [] = []
-numbersIn connections (t ∷ ts) = numberThen connections (recordOf t) (numbersIn connections ts)
+unfoldable pub recordsIn : List (List ℕ) → List Live
+recordsIn [] = []
+recordsIn (t ∷ ts) = recordThen (recordOf t) (recordsIn ts)
 
--- the connections of the records, or their peers
-abbrev pub numbersOf : Bool → List ℕ → List ℕ
-numbersOf connections value = numbersIn connections (between value)
+-- the live connections that a text says: its first 8192 records
+abbrev pub liveIn : List ℕ → List Live
+liveIn value = take 8192 (recordsIn (between value))
+
+-- 8192 places: the records, and zero behind them
+abbrev pub placed : List Live → List Live
+placed ls = ls ++ replicate (8192 - length ls) no-live
+
+unfoldable pub livesOf : List ℕ → Lives
+livesOf value = record { rows = placed (liveIn value); n = length (liveIn value) }
 
 -- ---- owners: `none`, `inbound` or the attempt's number
 abbrev pub attemptOf : Number → OwnerRead

@@ -1,11 +1,8 @@
 // The lines of `ledger_calls`, without their line feeds: which call a line says. The program's README.md has their forms.
 ghost use mathlib.Core.Path.{_≡_};
-ghost use mathlib.Core.List.{[], _∷_};
 ghost use Prim.Native.Nat.{_≤_};
 ghost use lib.ListN.{length};
-ghost use Rattle.prelude.specs.Choice.{pick};
-ghost use Rattle.text.specs.Printed.{printed, behind};
-ghost use Rattle.ledger_lines.specs.Values.{recordOf, recordAt, isLive, numbersOf, recordsFrom, ownerOf, pathOf, circuitOf, claimOf, reserveAt, probeAt, punchAt, purposeAt};
+ghost use Rattle.ledger_lines.specs.Values.{recordOf, recordAt, isLive, livesOf, recordsFrom, ownerOf, pathOf, circuitOf, claimOf, reserveAt, probeAt, punchAt, purposeAt};
 ghost use Rattle.ledger_lines.specs.Calls.{abortOf, dialCall, finishCall, expectCall, endCall, attributeCall, replacedCall, forgetCall, punchedCall, tickCall, wordCall, connectionCall, callOf};
 use fields::ChoiceField;
 use fields::NumberField;
@@ -14,6 +11,7 @@ use ids::ConnectId;
 use ids::ConnectionId;
 use ids::NatToken;
 use ids::PeerId;
+use live_dials::Live;
 use path::Attribution;
 use path::Claim;
 use path::DialPurpose;
@@ -24,7 +22,7 @@ use text::Number;
 // ---- live connections: records `peer:connection` with commas between
 
 pub enum Record {
-    Good { peer: u64, connection: u64 },
+    Good(Live),
     Bad,
 }
 
@@ -41,10 +39,10 @@ fn read_record(value: &[u8]) -> Record
     let Number::Value(connection) = text::read_decimal(&value[n + 1..]) else {
         return Record::Bad;
     };
-    Record::Good {
-        peer: peer,
-        connection: connection,
-    }
+    Record::Good(Live {
+        peer: PeerId(peer),
+        connection: ConnectionId(connection),
+    })
 }
 
 // A record, and where its comma or the end stands.
@@ -78,10 +76,7 @@ fn are_records(value: &[u8]) -> bool
         let end = r.end;
         match found {
             Record::Bad => return false,
-            Record::Good {
-                peer: _,
-                connection: _,
-            } => {
+            Record::Good(_) => {
                 if end == value.len() {
                     return true;
                 }
@@ -100,45 +95,40 @@ fn is_live(value: &[u8]) -> bool
     are_records(value)
 }
 
-fn put_value(v: u64, out: &mut [u64], at: usize) -> usize
-    ensures numbers { λ r. ⌜ now (out .exit) ≡ printed (now (out .entry)) at (v ∷ []) ⌝ }
-    ensures place { λ r. ⌜ r ≡ behind (now (out .entry)) at (v ∷ []) ⌝ }
-{
-    if at < out.len() {
-        out[at] = v;
-        return at + 1;
-    }
-    at
+// The live connections of a line: the first `n` of `rows`. A line has fewer than 8192: each takes four bytes.
+pub struct Lives {
+    pub rows: [Live; 8192],
+    pub n: usize,
 }
 
-fn choose(second: bool, a: u64, b: u64) -> u64
-    ensures { λ r. ⌜ r ≡ pick second b a ⌝ }
+// The records of a text, as far as there is room; up to the first text that is none.
+pub fn read_lives(value: &[u8]) -> Lives
+    ensures { λ r. ⌜ r ≡ livesOf (now (value .entry)) ⌝ }
 {
-    if second { b } else { a }
-}
-
-// The peers of the records, or their connections, laid into a buffer as far as there is room; up to the first text that is none.
-pub fn read_numbers(value: &[u8], connections: bool, out: &mut [u64]) -> usize
-    ensures numbers { λ r. ⌜ now (out .exit) ≡ printed (now (out .entry)) 0 (numbersOf connections (now (value .entry))) ⌝ }
-    ensures place { λ r. ⌜ r ≡ behind (now (out .entry)) 0 (numbersOf connections (now (value .entry))) ⌝ }
-{
+    let none = Live {
+        peer: PeerId(0),
+        connection: ConnectionId(0),
+    };
+    let mut rows = [none; 8192];
+    let mut n: usize = 0;
     let mut i: usize = 0;
-    let mut p: usize = 0;
-    loop {
+    while n < 8192 {
         let r = record_at(value, i);
         let found = r.found;
         let end = r.end;
         match found {
-            Record::Bad => return p,
-            Record::Good { peer, connection } => {
-                p = put_value(choose(connections, peer, connection), out, p);
+            Record::Bad => return Lives { rows, n },
+            Record::Good(live) => {
+                rows[n] = live;
+                n += 1;
                 if end == value.len() {
-                    return p;
+                    return Lives { rows, n };
                 }
                 i = end + 1;
             }
         }
     }
+    Lives { rows, n }
 }
 
 // ---- owners, paths and claims

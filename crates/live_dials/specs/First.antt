@@ -1,5 +1,4 @@
 -- A peer's first live connection, over a list of records (RULES.md, section 10.4).
-use Prim.Native.Nat.{ℕ}
 use mathlib.Core.Bool.{Bool}
 use mathlib.Core.List.{List, [], _∷_, map}
 use lib.Dec.{eqb}
@@ -23,13 +22,6 @@ unfoldable pub firstOf : List Live → PeerId → Found
 firstOf [] p = Nothing
 firstOf (l ∷ ls) p = pick (isPeer l p) (At (l .connection)) (firstOf ls p)
 
--- the records' peers, and their connections
-unfoldable pub peersOf : List Live → List ℕ
-peersOf ls = map (λ (l : Live). l .peer .0) ls
-
-unfoldable pub connectionsOf : List Live → List ℕ
-connectionsOf ls = map (λ (l : Live). l .connection .0) ls
-
 -- what a list answers past its end
 abbrev pub no-live : Live
 no-live = record { peer = record { 0 = 0 }; connection = record { 0 = 0 } }
@@ -41,6 +33,10 @@ no-peer = record { 0 = 0 }
 abbrev pub liveOf : Found → FirstLive
 liveOf (At c) = LiveAt c
 liveOf Nothing = NoLive
+
+-- a peer's first live connection
+abbrev pub firstLive : List Live → PeerId → FirstLive
+firstLive ls p = liveOf (firstOf ls p)
 
 abbrev pub first : Found → First
 first x = record { live = liveOf x }

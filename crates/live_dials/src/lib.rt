@@ -4,9 +4,8 @@
 ghost use mathlib.Core.Path.{_≡_};
 ghost use Prim.Native.Nat.{_<_};
 ghost use lib.ListN.{getD, set};
-ghost use Rattle.dials.specs.Dials.{firstOf as firstIn};
 ghost use Rattle.ledger.specs.Ledger.{abortedWith, abortedDials};
-ghost use Rattle.live_dials.specs.First.{isPeer, firstOf, no-peer, liveOf, first, firstsOf, peersOf, connectionsOf};
+ghost use Rattle.live_dials.specs.First.{isPeer, firstOf, no-peer, liveOf, first, firstsOf, firstLive};
 ghost use Rattle.live_dials.specs.Asking.{askedRows, askedAll, firstsFor};
 use dials::First;
 use dials::FirstLive;
@@ -136,7 +135,7 @@ fn drop_with(l: PathLedger, id: ConnectId, f: Firsts) -> Aborted
 // Drops the dials of the attempt that connects to the target. A dial whose connection is its peer's first live one is not closed; a
 // punch dial then keeps its row.
 pub fn abort_attempt_dials(l: PathLedger, id: ConnectId, target: PeerId, live: &[Live]) -> Aborted
-    ensures { λ r. ⌜ r ≡ abortedDials l id target (firstIn (peersOf (now (live .entry))) (connectionsOf (now (live .entry)))) ⌝ }
+    ensures { λ r. ⌜ r ≡ abortedDials l id target (firstLive (now (live .entry))) ⌝ }
 {
     let f = firsts_for(l, target, live);
     drop_with(l, id, f)

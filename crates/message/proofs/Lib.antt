@@ -6,3 +6,5 @@ pub mod FieldList
 pub mod Answers
 pub mod ReadBack
 pub mod Refusals
+pub mod Told
+pub mod ByRule

@@ -57,9 +57,9 @@ payload-within : (n w t : ℕ) (s : List ℕ) → 0 < t → Within (t + length s
 payload-within n w t s h =
     let z = t + length s in
     pick-within z (eqb w 0) _ _ (λ _. varint-within n t s h (varintOf s) refl)
-    (λ _. pick-within z (eqb w 1) _ _ (λ _. fixed-within 8 t s h)
+    (λ _. pick-within z (eqb w 1) _ _ (λ _. fixed-within _ t s h)
     (λ _. pick-within z (eqb w 2) _ _ (λ _. bytes-within n t s h (varintOf s) refl)
-    (λ _. pick-within z (eqb w 5) _ _ (λ _. fixed-within 4 t s h) (λ _. tt))))
+    (λ _. pick-within z (eqb w 5) _ _ (λ _. fixed-within _ t s h) (λ _. tt))))
 
 tagged-within : (s : List ℕ) (r : Varint) → r ≡ varintOf s → Within (length s) (tagged s r)
 tagged-within s (Value v t) e =

@@ -1,3 +1,4 @@
 pub mod Fields
 pub mod Message
 pub mod Encoding
+pub mod Refused

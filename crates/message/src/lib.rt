@@ -7,7 +7,7 @@ ghost use mathlib.Core.Path.{_≡_};
 ghost use mathlib.Core.Bool.{true};
 ghost use mathlib.Core.List.{List, _++_};
 ghost use Prim.Native.Nat.{ℕ, _+_, _<_, _≤_};
-ghost use lib.ListN.{length, take, getD};
+ghost use lib.ListN.{length, take, drop, getD};
 ghost use lib.Seq.{sets};
 ghost use Rattle.wire.specs.Varint.{encoded, varintOf};
 ghost use Rattle.wire.specs.Frame.{maxMessageSize};
@@ -15,6 +15,7 @@ ghost use Rattle.wire.specs.Lists.{entries, listed};
 ghost use Rattle.message.specs.Fields.{varintField, fixedField, bytesField, payloadOf, fieldOf};
 ghost use Rattle.message.specs.Message.{typeNumber, known, kindOf, contentOf, accepted, addresses, measured, over, withRoom, decodeOf, decodeInto};
 ghost use Rattle.message.specs.Encoding.{typeField, addressField, addressFields, encodeOf, encodeInto, frameEncodeOf, frameEncodeInto};
+ghost use Rattle.message.specs.Refused.{addressList, readNumber, readValues, readBy, messageSize, frameSize, writeValues, writtenBy};
 
 // The type of a message: CONNECT is 100, SYNC is 300.
 pub enum Kind {
@@ -412,4 +413,17 @@ pub fn refused_changes_nothing()
 // A room as long as the message is always enough for its list of addresses.
 pub fn room_is_enough()
     ensures { λ r. ⌜ ((m : List ℕ) (room : ℕ) → length m ≤ maxMessageSize → length m ≤ room → decodeOf m room ≡ withRoom (contentOf m)) ⌝ }
+{}
+
+// What is read and written is answered by the number of the first line of the rule's table that fits; where none fits, by 0, the type that
+// was met last and the size.
+pub fn refused_by_the_rule()
+    ensures read { λ r. ⌜ ((m : List ℕ) (room : ℕ) → readValues (decodeOf m room) ≡ readBy m room) ⌝ }
+    ensures written { λ r. ⌜ ((k : Kind) (s : List ℕ) (room : ℕ) → writeValues (encodeOf k s room) ≡ writtenBy s (messageSize k s) (messageSize k s) room) ⌝ }
+    ensures framed { λ r. ⌜ ((k : Kind) (s : List ℕ) (room : ℕ) → writeValues (frameEncodeOf k s room) ≡ writtenBy s (messageSize k s) (frameSize k s) room) ⌝ }
+{}
+
+// Where none fits, the addresses of the fields stand in the output, in order, as a list from its first byte on.
+pub fn addresses_by_the_rule()
+    ensures { λ r. ⌜ ((m out : List ℕ) → readNumber m (length out) ≡ 0 → decodeInto m out ≡ addressList m ++ drop (length (addressList m)) out) ⌝ }
 {}

@@ -195,3 +195,15 @@ length-4097 rest =
     let p : suc (suc (length rest)) ≡ 0 → ⊥ = omega arith in
     let o : suc (suc (length rest)) ≡ 1 → ⊥ = omega arith in
     rw (ne-eqb (suc (suc (length rest))) 0 p, ne-eqb (suc (suc (length rest))) 1 o)
+
+-- ---- a second length byte of 0
+
+pub second-zero : (b count : ℕ) (rest : List ℕ) → 128 ≤ b → 2 ≤ count → frameOf (take count (b ∷ 0 ∷ rest)) ≡ Broken
+unfolding frameFrom
+second-zero b zero rest h g = absurd (omega arith)
+second-zero b (suc zero) rest h g = absurd (omega arith)
+second-zero b (suc (suc n)) rest h g =
+    let m = suc (suc (length (take n rest))) in
+    let p : m ≡ 0 → ⊥ = omega arith in
+    let o : m ≡ 1 → ⊥ = omega arith in
+    rw (ne-eqb m 0 p, le-ltb b 128 h, ne-eqb m 1 o)

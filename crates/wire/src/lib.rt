@@ -285,6 +285,11 @@ pub fn longest_frame()
     ensures broken { λ r. ⌜ ((rest : List ℕ) → frameOf (0x81 ∷ 0x20 ∷ rest) ≡ Frame.Broken) ⌝ }
 {}
 
+// A second length byte of 0 behind one of 128 or more is broken, whatever follows, and however many bytes from the second on are there.
+pub fn second_byte_zero_is_broken()
+    ensures { λ r. ⌜ ((b count : ℕ) (rest : List ℕ) → 128 ≤ b → 2 ≤ count → frameOf (take count (b ∷ 0 ∷ rest)) ≡ Frame.Broken) ⌝ }
+{}
+
 // A message behind its length is a whole frame, whatever follows.
 pub fn framed_message_is_whole()
     ensures { λ r. ⌜ ((m rest : List ℕ) → length m ≤ maxMessageSize → frameOf (framed m ++ rest) ≡ Frame.Whole (length (encoded (length m))) (length m)) ⌝ }

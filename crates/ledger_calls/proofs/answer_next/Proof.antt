@@ -20,7 +20,7 @@ whole-length-requires : tie.Need-whole-length-requires
 whole-length-requires c κs = search needs
 
 slice-reshare-prefix-answer : tie.Need-slice-reshare-prefix-answer
-slice-reshare-prefix-answer c = c .whole-length .ensures .1
+slice-reshare-prefix-answer c = search needs
 
 slice-aggregate-answer : tie.Need-slice-aggregate-answer
 slice-aggregate-answer c = simp length-take (omega (arith, c .before .whole-length .ensures .1))
@@ -40,32 +40,39 @@ same-length-4 c = search needs
 same-length-5 : tie.Need-same-length-5
 same-length-5 c = search needs
 
+returns-2 : tie.Need-returns-2
+returns-2 c = search needs
+
 same-length-6 : tie.Need-same-length-6
 same-length-6 c = search needs
 
 same-length-7 : tie.Need-same-length-7
 same-length-7 c = search needs
 
-returns-2 : tie.Need-returns-2
-returns-2 c = c .before .before .before .before .before .before .before .before .before .before .before .before .before .before .before .before .before .before .before .before .before .before .next-line .ensures .1 .0
-
 same-length-8 : tie.Need-same-length-8
 same-length-8 c = search needs
 
-same-length-9 : tie.Need-same-length-9
-same-length-9 c = search needs
-
-same-length-10 : tie.Need-same-length-10
-same-length-10 c = search needs
-
-same-length-11 : tie.Need-same-length-11
-same-length-11 c = search needs
-
-same-length-12 : tie.Need-same-length-12
-same-length-12 c = search needs
-
 returns-3 : tie.Need-returns-3
-returns-3 c = c .before .before .before .before .before .before .before .before .before .before .before .before .before .before .before .before .before .before .before .before .before .before .next-line .ensures .1 .0
+returns-3 c = search needs
 
 pub answer-next-spec : {M : Type 1} → statement M
-answer-next-spec = tie.close (tie.spec next-line-requires same-length same-length-2 returns whole-length-requires slice-reshare-prefix-answer slice-aggregate-answer answer-requires print-requires same-length-3 same-length-4 same-length-5 same-length-6 same-length-7 returns-2 same-length-8 same-length-9 same-length-10 same-length-11 same-length-12 returns-3)
+answer-next-spec =
+    tie.close
+    (tie.spec
+    next-line-requires
+    same-length
+    same-length-2
+    returns
+    whole-length-requires
+    slice-reshare-prefix-answer
+    slice-aggregate-answer
+    answer-requires
+    print-requires
+    same-length-3
+    same-length-4
+    same-length-5
+    returns-2
+    same-length-6
+    same-length-7
+    same-length-8
+    returns-3)

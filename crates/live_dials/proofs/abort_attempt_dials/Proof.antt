@@ -34,9 +34,8 @@ use denote.Triple.Table.{entered, cited}
 use denote.Triple.Walked.{says, Stays, stay-none-slice, stay-none, walkOf, goes-none-slice, goes-none, Walks, ends-at, walked, walk-meets}
 use denote.Triple.Clauses.{ensured, lasts}
 use denote.Exit.{yes}
-use Rattle.dials.specs.Dials.{firstOf as firstIn}
 use Rattle.ledger.specs.Ledger.{abortedWith, abortedDials}
-use Rattle.live_dials.specs.First.{peersOf, connectionsOf}
+use Rattle.live_dials.specs.First.{firstLive}
 use Rattle.live_dials.specs.Asking.{firstsFor}
 use Rattle.live_dials.proofs.Equal.{same-abort}
 use Rattle.live_dials.specs.declared.Live.{Live}
@@ -117,7 +116,7 @@ module _ {M : Type 1} (𝓤 : URA M) (H : Heap 𝓤) (A : Atoms 𝓤) (W : Given
   abbrev Tok : Item 𝓤
   Tok = ‵ (flft κ q) ⊛ ‵ ftrue
 
-  exits : (r : Aborted) → r ≡ abortedDials d i t (firstIn (peersOf (s .now)) (connectionsOf (s .now))) → Is Aborted·.the-row r (LL.val Aborted·.the-type Aborted·L.the-laws r ∷ []) → ent 𝓤 (⋆ 𝓤 H A (‵ Own ∷ Tok ∷ [])) (Post (LL.val Aborted·.the-type Aborted·L.the-laws r))
+  exits : (r : Aborted) → r ≡ abortedDials d i t (firstLive (s .now)) → Is Aborted·.the-row r (LL.val Aborted·.the-type Aborted·L.the-laws r ∷ []) → ent 𝓤 (⋆ 𝓤 H A (‵ Own ∷ Tok ∷ [])) (Post (LL.val Aborted·.the-type Aborted·L.the-laws r))
   exits r e is =
       qed W (‵ Own ∷ Tok ∷ []) ∵
       suffices ! _ (ends-at 𝓤 H A this.ended stayed (this.clauses 𝓤 H A mem run) W (((κ, tt), (q, tt), tt, x, at′), tt) (LL.val Aborted·.the-type Aborted·L.the-laws r) r (tt, (tt, (tt, (tt, tt)))) (tt, (tt, (tt, (tt, tt))))) $ says ! e $
