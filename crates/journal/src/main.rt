@@ -2,10 +2,13 @@
 ghost use mathlib.Core.Path.{_≡_};
 ghost use Prim.Native.Nat.{_+_, _*_, _≤_};
 ghost use lib.Dec.{leb};
-ghost use lib.ListN.{length};
-ghost use Rattle.line_program.specs.Reads.{left, Read};
+ghost use lib.ListN.{length, take, replicate};
+ghost use mathlib.Core.List.{[], _++_};
+ghost use Rattle.line_program.specs.Reads.{left, NextLine};
 ghost use Rattle.journal_prints.specs.Room.{room};
-ghost use Rattle.journal.specs.Steps.{isLine, waitingAfter, stepOf};
+ghost use Rattle.journal_turns.specs.Turns.{longest};
+ghost use Rattle.journal.specs.Steps.{isLine, waitingAfter, state, stepOf, stepText};
+ghost use Rattle.journal.specs.Runs.{Ran, Replayed};
 use journal_turns::Journal;
 use line_program::Reading;
 
@@ -83,7 +86,8 @@ fn take_step(
     ensures reply { λ r. ⌜ now (reply .exit) ≡ stepOf (r .reading) (now (line .exit)) j (now (reply .entry)) (now (out .entry)) waiting .reply ⌝ }
     ensures out { λ r. ⌜ now (out .exit) ≡ stepOf (r .reading) (now (line .exit)) j (now (reply .entry)) (now (out .entry)) waiting .out ⌝ }
     ensures waiting { λ r. ⌜ r .waiting ≡ stepOf (r .reading) (now (line .exit)) j (now (reply .entry)) (now (out .entry)) waiting .waiting ⌝ }
-    ensures read { λ r. ⌜ Read (now (line .entry)) 0 (left (now (block .entry)) from until) (now (block .exit)) (now (line .exit)) (r .reading) ⌝ }
+    ensures whole { λ r. ⌜ (4 * room ≤ length (now (out .entry)) → stepOf (r .reading) (now (line .exit)) j (now (reply .entry)) (now (out .entry)) waiting .handed ++ take (r .waiting) (now (out .exit)) ≡ take waiting (now (out .entry)) ++ stepText (r .reading) (now (line .exit)) j (now (reply .entry))) ⌝ }
+    ensures read { λ r. ⌜ NextLine (now (line .entry)) (left (now (block .entry)) from until) (now (block .exit)) (now (line .exit)) (r .reading) ⌝ }
 {
     let s = line_program::next_line(block, line, from, until);
     if is_line(s.failed, s.ended, s.used) {
@@ -106,9 +110,9 @@ fn take_step(
     }
 }
 
-// How the lines ended: whether reading failed, and the output that waits.
+// Where the input stood as the program stopped, and the output that waits.
 pub struct Ending {
-    pub failed: bool,
+    pub reading: Reading,
     pub waiting: usize,
     pub written: bool,
 }
@@ -123,11 +127,13 @@ fn run(
     first: Reading,
     opened: Journal,
 ) -> Ending
-    ensures { λ r. ⌜ r .waiting ≤ length (now (out .entry)) ⌝ }
+    requires { ⌜ (longest ≤ length (now line)) × (4 * room ≤ length (now out)) ⌝ }
+    ensures bound { λ r. ⌜ r .waiting ≤ length (now (out .entry)) ⌝ }
+    ensures ran { λ r. ⌜ Ran (state opened (now (reply .entry)) (now (out .entry)) 0 []) (left (now (block .entry)) (first .from) (first .until)) (now (block .exit)) (now (reply .exit)) (now (out .exit)) r ⌝ }
 {
     let mut s = take_step(block, line, reply, out, first.from, first.until, opened, 0);
     let mut turns = u64::MAX;
-    while 0 < turns && s.reading.more && s.written {
+    while 0 < turns && s.reading.ended && s.written {
         let journal = s.journal;
         s = take_step(
             block,
@@ -141,8 +147,9 @@ fn run(
         );
         turns -= 1;
     }
+    let reading = s.reading;
     Ending {
-        failed: s.reading.failed,
+        reading: reading,
         waiting: s.waiting,
         written: s.written,
     }
@@ -150,7 +157,7 @@ fn run(
 
 // Writes what waits, but not behind a gap; what failed is told on standard error.
 fn finish(out: &[u8], e: Ending) {
-    if e.failed {
+    if e.reading.failed {
         io::write_all(
             libc::STDERR_FILENO,
             b"journal: standard input cannot be read\n",
@@ -169,12 +176,14 @@ fn finish(out: &[u8], e: Ending) {
 
 // The first line, and the others where it is good.
 fn replay(block: &mut [u8], line: &mut [u8], reply: &mut [u8], out: &mut [u8]) -> Ending
-    ensures { λ r. ⌜ r .waiting ≤ length (now (out .entry)) ⌝ }
+    requires { ⌜ (longest ≤ length (now line)) × (4 * room ≤ length (now out)) × (now reply ≡ replicate 4098 0) ⌝ }
+    ensures bound { λ r. ⌜ r .waiting ≤ length (now (out .entry)) ⌝ }
+    ensures replayed { λ r. ⌜ Replayed (now (reply .entry)) (now (out .entry)) (now (block .exit)) (now (reply .exit)) (now (out .exit)) r ⌝ }
 {
     let s = line_program::next_line(block, line, 0, 0);
     if s.failed {
         return Ending {
-            failed: true,
+            reading: s,
             waiting: 0,
             written: true,
         };
@@ -186,7 +195,7 @@ fn replay(block: &mut [u8], line: &mut [u8], reply: &mut [u8], out: &mut [u8]) -
         return run(block, line, reply, out, s, opened);
     }
     Ending {
-        failed: false,
+        reading: s,
         waiting: o.next,
         written: true,
     }

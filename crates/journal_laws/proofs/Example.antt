@@ -31,7 +31,7 @@ use Rattle.inbound.specs.Circuit.{inPhase, exchangingOf, isLive, openRound, tic
 use Rattle.inbound.specs.Input.{ownOf, targetsFrom, dataInput, exchangeInput, inputOf}
 use Rattle.journal_prints.specs.Outputs.{withCommas, targetsText}
 use Rattle.journal_text.specs.Texts.{firstOf, opened, lineText}
-use Rattle.journal_laws.specs.Journals.{cut, linesText, opening, journalText}
+use Rattle.journal_text.specs.Journals.{cut, linesText, opening, journalText}
 use Rattle.journal_laws.specs.Example.{input, printed}
 use Rattle.schedule.specs.Schedule as schedule
 use Rattle.journal_lines.specs.Lines as line

@@ -1,4 +1,3 @@
 pub mod Refusals
 pub mod Counts
-pub mod Cutting
 pub mod Example

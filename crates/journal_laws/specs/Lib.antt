@@ -1,3 +1,2 @@
-pub mod Journals
 pub mod Laws
 pub mod Example

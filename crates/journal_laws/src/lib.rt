@@ -2,8 +2,8 @@
 ghost use mathlib.Core.Path.{_≡_};
 ghost use mathlib.Core.List.{[]};
 ghost use Rattle.text.specs.Words.{ascii};
-ghost use Rattle.journal_laws.specs.Laws.{RefusedChangesNothing, EveryLineCounts, LineByLine, LongLinesAreOne};
-ghost use Rattle.journal_laws.specs.Journals.{journalText};
+ghost use Rattle.journal_text.specs.Journals.{journalText, LineByLine, LongLinesAreOne};
+ghost use Rattle.journal_laws.specs.Laws.{RefusedChangesNothing, EveryLineCounts};
 ghost use Rattle.journal_laws.specs.Example.{input, printed};
 
 // A refused line leaves circuit, ledger, settings and reply buffer as they were.

@@ -2,7 +2,7 @@
 use mathlib.Core.Path.{_≡_, refl, sym, ap, subst, _∙_}
 use mathlib.Core.List.{List, [], _∷_, _++_, append-nil, append-assoc}
 use mathlib.Core.Bool.{Bool, true, false, not}
-use Prim.Native.Nat.{ℕ, suc, _+_, _<_, _≤_, min}
+use Prim.Native.Nat.{ℕ, suc, _+_, _*_, _<_, _≤_, min}
 use native.Mathlib.Omega.{arith}
 use lib.Dec.{ltb, eqb}
 use lib.ListN.{length, getD, take, drop, length-append, length-take, length-drop, drop-of-length-le}
@@ -16,7 +16,7 @@ use Rattle.lines.specs.Lines.{textFrom, endFrom, gathered}
 use Rattle.lines.specs.declared.Gathered.{Gathered}
 use Rattle.lines.proofs.Feeds.{joined}
 use Rattle.line_program.specs.declared.Reading.{Reading}
-use Rattle.line_program.specs.Reads.{left, feed, refilled, Read}
+use Rattle.line_program.specs.Reads.{left, feed, refilled, Read, Turned}
 
 -- ---- line feeds
 
@@ -60,13 +60,13 @@ split s = go (ltb (lengthBefore 10 s) (length s)) refl
 
 -- ---- the steps
 
-true-not-false : true ≡ false → ⊥
+pub true-not-false : true ≡ false → ⊥
 true-not-false e = let z : _≡_ {A = ℕ} 0 1 = cc in absurd (omega arith)
 
 -- nothing has been read yet
-pub unread : (line block : List ℕ) (r : Reading) → r .ended ≡ false → r .more ≡ true → Read line (r .used) (left block (r .from) (r .until)) block line r
+unread : (line block : List ℕ) (r : Reading) → r .ended ≡ false → r .more ≡ true → (r .failed ≡ true → r .more ≡ false) → Read line (r .used) (left block (r .from) (r .until)) block line r
 unfolding lengthBefore
-unread line block r e m =
+unread line block r e m f =
     record {
       brought = [];
       text = [];
@@ -74,18 +74,23 @@ unread line block r e m =
       plain = refl;
       bytes = laid-none line (r .used) .bytes;
       place = laid-none line (r .used) .place;
-      dry = λ _ d. absurd (true-not-false (sym m ∙ d));
+      dry = λ d. absurd (true-not-false (sym m ∙ d));
+      failing = f;
     }
 
 pub not-yet : (b : Bool) → not b ≡ true → b ≡ false
 not-yet true e = sym e
 not-yet false e = refl
 
+pub yet : (b : Bool) → not b ≡ false → b ≡ true
+yet true e = refl
+yet false e = sym e
+
 -- a line goes on where it was
-pub goes-on : {line : List ℕ} {used : ℕ} {had block after : List ℕ} {r : Reading} {block′ after′ : List ℕ} {r′ : Reading}
+unfoldable joins : {line : List ℕ} {used : ℕ} {had block after : List ℕ} {r : Reading} {block′ after′ : List ℕ} {r′ : Reading}
     → Read line used had block after r → r .ended ≡ false → Read after (r .used) (left block (r .from) (r .until)) block′ after′ r′
     → Read line used had block′ after′ r′
-goes-on {line} {used} {had} {block} {after} {r} {block′} {after′} {r′} x e y =
+joins {line} {used} {had} {block} {after} {r} {block′} {after′} {r′} x e y =
     let l : Laid line used (x .text ++ y .text) after′ (r′ .used) =
     then (record { bytes = x .bytes; place = x .place }) (record { bytes = y .bytes; place = y .place })
     in
@@ -105,22 +110,27 @@ goes-on {line} {used} {had} {block} {after} {r} {block′} {after′} {r′} x e
       bytes = l .bytes;
       place = l .place;
       dry = y .dry;
+      failing = y .failing;
+    }
+
+-- by one turn more
+pub goes-on : {turns n : ℕ} {line : List ℕ} {used : ℕ} {had block after : List ℕ} {r : Reading} {block′ after′ : List ℕ} {r′ : Reading}
+    → Turned turns line used had block after r → r .ended ≡ false → r .more ≡ true
+    → Turned 1 after (r .used) (left block (r .from) (r .until)) block′ after′ r′
+    → n ≡ turns + 1 → Turned n line used had block′ after′ r′
+unfolding joins
+goes-on x e m y k =
+    record {
+      read = joins (x .read) e (y .read);
+      taken = λ e′ m′. omega (arith, x .taken e m, y .taken e′ m′, length-append (x .read .text) (y .read .text));
     }
 
 -- by what the block has of the line
-pub by-block : (block line : List ℕ) (used from until : ℕ) (failed : Bool) {g : Gathered} {after : List ℕ} → g ≡ gathered (take until block) from line used
+pub by-block : (block line : List ℕ) (used from until : ℕ) {g : Gathered} {after : List ℕ} → g ≡ gathered (take until block) from line used
     → after ≡ printed line used (textFrom (take until block) from)
-    → Read line used (left block from until) block after (record { used = g .used; ended = g .ended; more = true; failed = failed; from = g .next; until = until })
-by-block block line used from until failed {g} {after} e f =
-    record {
-      brought = [];
-      text = textFrom (take until block) from;
-      whole = append-nil (left block from until) ∙ split (left block from until) ∙ rw (e) (cut (ltb (endFrom (take until block) from) (length (take until block))) refl);
-      plain = plain-before (left block from until);
-      bytes = f;
-      place = ap (λ (x : Gathered). x .used) e;
-      dry = λ _ d. absurd (true-not-false d);
-    }
+    → from < until → until ≤ length block
+    → Turned 1 line used (left block from until) block after (record { used = g .used; ended = g .ended; more = true; failed = false; from = g .next; until = until })
+by-block block line used from until {g} {after} e f h k = record { read = read; taken = λ d _. taken (sym (ap (λ (x : Gathered). x .ended) e) ∙ d) }
   where
     n : ℕ
     n = lengthBefore 10 (left block from until)
@@ -136,25 +146,52 @@ by-block block line used from until failed {g} {after} e f =
         let h : length (take until block) ≤ from + n = ltb-false _ _ d in
         rw (le-ltb n (length (left block from until)) (omega (arith, length-drop from (take until block))), drop-drop (suc n) from (take until block), drop-of-length-le (take until block) {i = from + suc n} (omega arith), drop-of-length-le (take until block) {i = from + n} h)
 
+    read : Read line used (left block from until) block after (record { used = g .used; ended = g .ended; more = true; failed = false; from = g .next; until = until })
+    read = record {
+      brought = [];
+      text = textFrom (take until block) from;
+      whole = append-nil (left block from until) ∙ split (left block from until) ∙ rw (e) (cut (ltb (endFrom (take until block) from) (length (take until block))) refl);
+      plain = plain-before (left block from until);
+      bytes = f;
+      place = ap (λ (x : Gathered). x .used) e;
+      dry = λ d. absurd (true-not-false d);
+      failing = λ d. absurd (true-not-false (sym d));
+    }
+
+    -- without a line feed the line has all that was left
+    taken : ltb (endFrom (take until block) from) (length (take until block)) ≡ false
+        → 1 + min 1 (length (left block from until)) ≤ 2 * length (textFrom (take until block) from) + min 1 (length (left block (g .next) until))
+    taken d =
+        let l : length (take until block) ≤ from + n = ltb-false _ _ d in
+        omega (arith, length-take until block, length-drop from (take until block), length-take n (left block from until))
+
 -- by a block more, where the block has none left
-pub by-read : (block₀ block line : List ℕ) (used from until : ℕ) {r : Reading} → until ≤ from → r ≡ refilled used (r .until) (r .failed)
-    → Read line used (left block₀ from until) block line r
+pub by-read : (block₀ block line : List ℕ) (used from until : ℕ) {r : Reading} → until ≤ from → r ≡ refilled used (r .until) (r .failed) → r .until ≤ length block
+    → (r .failed ≡ true → r .until ≡ 0) → Turned 1 line used (left block₀ from until) block line r
 unfolding lengthBefore
-by-read block₀ block line used from until {r} h e =
-    record {
+by-read block₀ block line used from until {r} h e k z = record { read = read; taken = λ _ m. taken (sym (ap (λ (x : Reading). x .more) e) ∙ m) }
+  where
+    none-left : ltb 0 (r .until) ≡ false → left block (r .from) (r .until) ≡ []
+    none-left d =
+        let h : r .until ≤ 0 = ltb-false 0 (r .until) d in
+        drop-of-length-le (take (r .until) block) {i = r .from} (omega (arith, length-take (r .until) block))
+
+    taken : ltb 0 (r .until) ≡ true → 1 + min 1 (length (left block₀ from until)) ≤ 2 * 0 + min 1 (length (left block (r .from) (r .until)))
+    taken d =
+        let l : 0 < r .until = ltb-true 0 (r .until) d in
+        omega (arith, length-take until block₀, length-drop from (take until block₀), ap (λ (x : Reading). x .from) e, length-take (r .until) block, length-drop (r .from) (take (r .until) block))
+
+    read : Read line used (left block₀ from until) block line r
+    read = record {
       brought = left block (r .from) (r .until);
       text = [];
       whole = rw (drop-of-length-le (take until block₀) {i = from} (omega (arith, length-take until block₀)), ap (λ (x : Reading). x .ended) e);
       plain = refl;
       bytes = laid-none line used .bytes;
       place = ap (λ (x : Reading). x .used) e ∙ laid-none line used .place;
-      dry = λ _ d. none-left (sym (ap (λ (x : Reading). x .more) e) ∙ d);
+      dry = λ d. (ap (λ (x : Reading). x .ended) e, none-left (sym (ap (λ (x : Reading). x .more) e) ∙ d));
+      failing = λ d. ap (λ (x : Reading). x .more) e ∙ le-ltb 0 (r .until) (omega (arith, z d));
     }
-  where
-    none-left : ltb 0 (r .until) ≡ false → left block (r .from) (r .until) ≡ []
-    none-left d =
-        let h : r .until ≤ 0 = ltb-false 0 (r .until) d in
-        drop-of-length-le (take (r .until) block) {i = r .from} (omega (arith, length-take (r .until) block))
 
 -- a place past the block's end is its end
 within : (block : List ℕ) (from until : ℕ) → left block from (min until (length block)) ≡ left block from until
@@ -168,8 +205,8 @@ within block from until = go (ltb (length block) until) refl
 
 -- a line begins
 pub begun : (line block : List ℕ) (from until : ℕ) {stop : ℕ} → stop ≡ min until (length block)
-    → Read line 0 (left block from until) block line (record { used = 0; ended = false; more = true; failed = false; from = from; until = stop })
+    → Turned 0 line 0 (left block from until) block line (record { used = 0; ended = false; more = true; failed = false; from = from; until = stop })
 begun line block from until {stop} e =
-    subst (λ (had : List ℕ). Read line 0 had block line (record { used = 0; ended = false; more = true; failed = false; from = from; until = stop }))
+    subst (λ (had : List ℕ). Turned 0 line 0 had block line (record { used = 0; ended = false; more = true; failed = false; from = from; until = stop }))
     (ap (λ (k : ℕ). left block from k) e ∙ within block from until)
-    (unread line block (record { used = 0; ended = false; more = true; failed = false; from = from; until = stop }) refl refl)
+    (record { read = unread line block (record { used = 0; ended = false; more = true; failed = false; from = from; until = stop }) refl refl (λ f. absurd (true-not-false (sym f))); taken = λ _ _. omega arith })

@@ -3,7 +3,7 @@
 use mathlib.Core.Path.{_≡_}
 use mathlib.Core.Bool.{Bool, true, false}
 use mathlib.Core.List.{List, [], _∷_, _++_}
-use Prim.Native.Nat.{ℕ}
+use Prim.Native.Nat.{ℕ, _+_, _*_, _≤_, min}
 use lib.Dec.{ltb}
 use lib.ListN.{length, take, drop}
 use Rattle.text.specs.Words.{lengthBefore}
@@ -32,5 +32,18 @@ pub record Read (line : List ℕ) (used : ℕ) (had : List ℕ) (block after : L
   pub plain : lengthBefore 10 text ≡ length text
   pub bytes : after ≡ printed line used text
   pub place : r .used ≡ behind line used text
-  -- where no more is to come nothing is left
-  pub dry : r .ended ≡ false → r .more ≡ false → left block (r .from) (r .until) ≡ []
+  -- where no more is to come no line feed ended the line, and nothing is left
+  pub dry : r .more ≡ false → (r .ended ≡ false) × (left block (r .from) (r .until) ≡ [])
+  pub failing : r .failed ≡ true → r .more ≡ false
+
+-- Reading goes on in turns: a turn takes what the block has left of the line, or reads a block more. Until a line feed or the input's end
+-- is met, of any two turns one takes a byte.
+pub record Turned (turns : ℕ) (line : List ℕ) (used : ℕ) (had block after : List ℕ) (r : Reading) : Type 0 where
+  pub read : Read line used had block after r
+  pub taken : r .ended ≡ false → r .more ≡ true
+      → turns + min 1 (length had) ≤ 2 * length (read .text) + min 1 (length (left block (r .from) (r .until)))
+
+-- The next line: it goes up to its line feed or the input's end, unless it has 2^63 − 1 bytes or more; no run reads so many.
+pub record NextLine (line had block after : List ℕ) (r : Reading) : Type 0 where
+  pub read : Read line 0 had block after r
+  pub long : r .ended ≡ false → r .more ≡ true → 9223372036854775807 ≤ length (read .text)

@@ -4,7 +4,7 @@ ghost use mathlib.Core.Path.{_≡_};
 ghost use mathlib.Core.Bool.{true};
 ghost use Prim.Native.Nat.{_≤_};
 ghost use lib.ListN.{length};
-ghost use Rattle.line_program.specs.Reads.{left, refilled, Read};
+ghost use Rattle.line_program.specs.Reads.{left, refilled, Turned, NextLine};
 use libc::STDIN_FILENO;
 use libc::STDOUT_FILENO;
 
@@ -19,18 +19,29 @@ pub struct Reading {
     pub until: usize,
 }
 
-// Reads a block.
+// Reads a block; a read that fails brings none.
 fn fill(block: &mut [u8], used: usize) -> Reading
     ensures result { λ r. ⌜ r ≡ refilled used (r .until) (r .failed) ⌝ }
     ensures block { λ r. ⌜ r .until ≤ length (now (block .entry)) ⌝ }
+    ensures failed { λ r. ⌜ (r .failed ≡ true → r .until ≡ 0) ⌝ }
 {
     let got = libc::read(STDIN_FILENO, block);
+    if got < 0 {
+        return Reading {
+            used: used,
+            ended: false,
+            more: false,
+            failed: true,
+            from: 0,
+            until: 0,
+        };
+    }
     let n = io::count(got, block);
     Reading {
         used: used,
         ended: false,
         more: 0 < n,
-        failed: got < 0,
+        failed: false,
         from: 0,
         until: n,
     }
@@ -41,7 +52,7 @@ fn read_on(block: &mut [u8], line: &mut [u8], s: Reading) -> Reading
     requires { ⌜ (s .used ≤ length (now line)) × (s .until ≤ length (now block)) ⌝ }
     ensures used { λ r. ⌜ r .used ≤ length (now (line .entry)) ⌝ }
     ensures block { λ r. ⌜ r .until ≤ length (now (block .entry)) ⌝ }
-    ensures read { λ r. ⌜ Read (now (line .entry)) (s .used) (left (now (block .entry)) (s .from) (s .until)) (now (block .exit)) (now (line .exit)) r ⌝ }
+    ensures read { λ r. ⌜ Turned 1 (now (line .entry)) (s .used) (left (now (block .entry)) (s .from) (s .until)) (now (block .exit)) (now (line .exit)) r ⌝ }
 {
     if s.until <= s.from {
         return fill(block, s.used);
@@ -63,7 +74,7 @@ fn read_on(block: &mut [u8], line: &mut [u8], s: Reading) -> Reading
 pub fn next_line(block: &mut [u8], line: &mut [u8], from: usize, until: usize) -> Reading
     ensures used { λ r. ⌜ r .used ≤ length (now (line .entry)) ⌝ }
     ensures block { λ r. ⌜ r .until ≤ length (now (block .entry)) ⌝ }
-    ensures read { λ r. ⌜ Read (now (line .entry)) 0 (left (now (block .entry)) from until) (now (block .exit)) (now (line .exit)) r ⌝ }
+    ensures read { λ r. ⌜ NextLine (now (line .entry)) (left (now (block .entry)) from until) (now (block .exit)) (now (line .exit)) r ⌝ }
 {
     let stop = text::least(until, block.len());
     let mut s = Reading {

@@ -1,4 +1,4 @@
-use Rattle.journal_laws.proofs.Cutting.{lines}
+use Rattle.journal_text.proofs.Cutting.{lines}
 use Rattle.journal_laws.proofs.line_by_line.Statement.{statement}
 use Rattle.journal_laws.proofs.line_by_line.Tie as tie
 

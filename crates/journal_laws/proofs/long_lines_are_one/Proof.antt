@@ -1,4 +1,4 @@
-use Rattle.journal_laws.proofs.Cutting.{long-lines}
+use Rattle.journal_text.proofs.Cutting.{long-lines}
 use Rattle.journal_laws.proofs.long_lines_are_one.Statement.{statement}
 use Rattle.journal_laws.proofs.long_lines_are_one.Tie as tie
 

@@ -15,7 +15,7 @@ same-length : tie.Need-same-length
 same-length c = search needs
 
 returns : tie.Need-returns
-returns c = (omega (arith, ap (λ (x : Reading). x .used) (c .before .before .fill .ensures .0)), (c .before .before .fill .ensures .1, by-read _ _ _ _ _ _ (c .before .before .before .before .if1 .taken) (c .before .before .fill .ensures .0)))
+returns c = (omega (arith, ap (λ (x : Reading). x .used) (c .before .before .fill .ensures .0)), (c .before .before .fill .ensures .1 .0, by-read _ _ _ _ _ _ (c .before .before .before .before .if1 .taken) (c .before .before .fill .ensures .0) (omega arith) (c .before .before .fill .ensures .1 .1)))
 
 slice-reshare-prefix-gather : tie.Need-slice-reshare-prefix-gather
 slice-reshare-prefix-gather c = search needs
@@ -33,7 +33,7 @@ same-length-3 : tie.Need-same-length-3
 same-length-3 c = search needs
 
 returns-2 : tie.Need-returns-2
-returns-2 c = (used-within _ _ _ _ (c .before .before .gather .ensures .0) (omega arith), (omega arith, by-block _ _ _ _ _ _ (c .before .before .gather .ensures .0) (c .before .before .gather .ensures .1)))
+returns-2 c = (used-within _ _ _ _ (c .before .before .gather .ensures .0) (omega arith), (omega arith, by-block _ _ _ _ _ (c .before .before .gather .ensures .0) (c .before .before .gather .ensures .1) (omega arith) (omega arith)))
 
 pub read-on-spec : {M : Type 1} → statement M
 read-on-spec =

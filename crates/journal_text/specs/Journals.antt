@@ -1,15 +1,16 @@
 -- What a whole journal prints (RULES.md, section 12): from the bytes of the input to those of the output.
-use Prim.Native.Nat.{ℕ, zero, suc}
-use mathlib.Core.Bool.{Bool, false}
+use Prim.Native.Nat.{ℕ, zero, suc, _<_, _≤_}
+use mathlib.Core.Path.{_≡_}
+use mathlib.Core.Bool.{Bool, true, false}
 use mathlib.Core.List.{List, [], _∷_, _++_}
 use lib.Dec.{eqb, ltb}
 use lib.ListN.{length, take, drop, replicate}
 use Rattle.prelude.specs.Choice.{pick}
 use Rattle.text.specs.Words.{lengthBefore}
 use Rattle.journal_lines.specs.declared.First.{First}
-use Rattle.journal_turns.specs.Turns.{lineTurn}
+use Rattle.journal_turns.specs.Turns.{longest, lineTurn}
 use Rattle.journal_turns.specs.declared.Journal.{Journal}
 use Rattle.journal_text.specs.Texts.{firstOf, isGood, opened, openingText, lineText}
 
 -- the first n lines of an input, each without its line feed, and whether it has one (section 12.1): a line goes up to its line feed, the
 -- byte 10; bytes behind the last line feed are a line without one
@@ -40,3 +41,15 @@ textOf (first ∷ rest) = opening (firstOf (first .0) (first .1)) rest
 
 unfoldable pub journalText : List ℕ → List ℕ
 journalText input = textOf (linesOf input)
+
+-- ---- laws
+
+-- bytes without a line feed, then a line feed: a line and the lines behind it. Bytes without a line feed alone are a line without one
+pub record LineByLine : Type 0 where
+  pub ended : (text rest : List ℕ) → lengthBefore 10 text ≡ length text → linesOf (text ++ (10 ∷ rest)) ≡ (text, true) ∷ linesOf rest
+  pub last : (text : List ℕ) → lengthBefore 10 text ≡ length text → 0 < length text → linesOf text ≡ (text, false) ∷ []
+
+abbrev pub LongLinesAreOne : Type 0
+LongLinesAreOne =
+    (j : Journal) (reply line : List ℕ) (ended : Bool) (n : ℕ) → longest ≤ length line → longest ≤ n
+    → lineTurn j reply (take n line) ended ≡ lineTurn j reply line ended

@@ -14,8 +14,9 @@ use Rattle.text.specs.Words.{lengthBefore}
 use Rattle.lines.proofs.Feeds.{joined}
 use Rattle.journal_lines.specs.declared.Line.the-variants.{Unknown}
 use Rattle.journal_turns.specs.Turns.{longest, read, turnOf, lineTurn}
-use Rattle.journal_laws.specs.Journals.{cut, linesOf}
-use Rattle.journal_laws.specs.Laws.{LineByLine, LongLinesAreOne}
+use Rattle.journal_turns.specs.declared.Journal.{Journal}
+use Rattle.journal_text.specs.Texts.{firstOf}
+use Rattle.journal_text.specs.Journals.{cut, linesOf, LineByLine, LongLinesAreOne}
 
 -- more lines than bytes change nothing
 enough : (n m : ℕ) (s : List ℕ) → length s ≤ n → length s ≤ m → cut n s ≡ cut m s
@@ -71,6 +72,15 @@ unfolding read
 unknown line true h = rw (le-ltb (length line) longest h)
 unknown line false h = refl
 
-pub long-lines : LongLinesAreOne
+pub long-same : (j : Journal) (reply a b : List ℕ) (ended : Bool) → longest ≤ length a → longest ≤ length b
+    → lineTurn j reply a ended ≡ lineTurn j reply b ended
 unfolding lineTurn turnOf
-long-lines j reply line ended n h k = rw (unknown (take n line) ended (omega (arith, length-take n line)), unknown line ended h)
+long-same j reply a b ended h k = rw (unknown a ended h, unknown b ended k)
+
+pub long-first : (a b : List ℕ) (ended : Bool) → longest ≤ length a → longest ≤ length b → firstOf a ended ≡ firstOf b ended
+unfolding firstOf
+long-first a b true h k = rw (le-ltb (length a) longest h, le-ltb (length b) longest k)
+long-first a b false h k = refl
+
+pub long-lines : LongLinesAreOne
+long-lines j reply line ended n h k = long-same j reply (take n line) line ended (omega (arith, length-take n line)) h
