@@ -1,10 +1,10 @@
 -- What holds of every line behind the first (RULES.md, sections 12.6 and 12.7), whatever journal it meets.
-use Prim.Native.Nat.{ℕ}
+use Prim.Native.Nat.{ℕ, _+_, _-_, _^_, min}
 use mathlib.Core.Path.{_≡_}
 use mathlib.Core.Bool.{Bool}
 use mathlib.Core.List.{List}
 use Rattle.refusal.specs.declared.Refusal.{Refusal}
-use Rattle.journal_turns.specs.Turns.{oneMore, counted, lineTurn}
+use Rattle.journal_turns.specs.Turns.{counted, lineTurn}
 use Rattle.journal_turns.specs.declared.Journal.{Journal}
 use Rattle.journal_turns.specs.declared.Said.the-variants.{Refused}
 
@@ -14,5 +14,6 @@ RefusedChangesNothing =
     (j : Journal) (reply line : List ℕ) (ended : Bool) (why : Refusal) → lineTurn j reply line ended .turn .said ≡ Refused why
     → (lineTurn j reply line ended .turn .journal ≡ counted j) × (lineTurn j reply line ended .reply ≡ reply)
 
+-- one more with each line; a number of 64 bits goes no further than 2^64 − 1
 abbrev pub EveryLineCounts : Type 0
-EveryLineCounts = (j : Journal) (reply line : List ℕ) (ended : Bool) → lineTurn j reply line ended .turn .journal .n ≡ oneMore (j .n)
+EveryLineCounts = (j : Journal) (reply line : List ℕ) (ended : Bool) → lineTurn j reply line ended .turn .journal .n ≡ min (j .n + 1) (2 ^ 64 - 1)

@@ -55,13 +55,17 @@ use Rattle.history.proofs.Run.{step-keeps, begun-rel}
 use Rattle.history.proofs.Answers.{step-answers, own-message}
 use Rattle.history.proofs.Buffers.{step-gives}
 use Rattle.journal_lines.specs.declared.Kind.{Kind}
+use Rattle.journal_lines.specs.declared.Kind.the-variants as kind
+use Rattle.fields.specs.declared.Maybe.the-variants as maybe
+use Rattle.fields.specs.declared.Pair.the-variants as pair
+use Rattle.inbound.specs.Input.{ownOf}
 use Rattle.journal_lines.specs.declared.Line.{Line}
 use Rattle.journal_lines.specs.declared.Line.the-variants.{Start, Up, Input, Tick, Wrote, Down, Dial, Forget, Attribute, Unknown}
 use Rattle.journal_turns.specs.declared.Journal.{Journal}
-use Rattle.journal_turns.specs.Turns.{newJournal, counted, withState, started, noEffects, silent, refused, naming, effectsOf, answered, hostOf, digitsBytes, inputOf, startIn, startTurn, upTurn, inputTurn, tickTurn, wroteTurn, downTurn, dialedBy, dialTurn, forgetTurn, claimFor, namedBy, attributeTurn, Taken, apart, needsStart, callTurn, turnOf, read, lineTurn}
+use Rattle.journal_turns.specs.Turns.{newJournal, counted, withState, started, noEffects, silent, refused, naming, effectsOf, answered, liveOf, offerOf, hostOf, digitsBytes, inputOf, startIn, startTurn, upTurn, inputTurn, tickTurn, wroteTurn, downTurn, dialedBy, dialTurn, forgetTurn, claimFor, namedBy, attributeTurn, Taken, apart, needsStart, callTurn, turnOf, read, lineTurn}
 use Rattle.names.specs.Events.{Event, dialed, gotName, forgot, awaited, punchedFor, dialing, expected, isFull}
 use Rattle.names.specs.Events as event
-use Rattle.names.specs.Diary.{Diary, upBy, inputBy, tickBy, ofLot, called, adds, nameOf, isName, says, entered, Out, still, refusedBy, outBy, onceStarted, noRoom, number, blank, toldOf, nextOf, tellsLines, outOf, outs, NamesFollow}
+use Rattle.names.specs.Diary.{Diary, kindBy, hostBy, upBy, inputBy, tickBy, ofLot, called, adds, nameOf, isName, says, entered, Out, still, refusedBy, outBy, onceStarted, noRoom, number, blank, toldOf, nextOf, tellsLines, outOf, outs, NamesFollow}
 use Rattle.names.proofs.Tallies.{keys-full}
 use Rattle.names.proofs.Agrees.{Agrees, empty-agrees, gave-up-agrees, replied-agrees, ticked-agrees, dialed-agrees, forgot-agrees, named-agrees}
 use Rattle.time.specs.Time.{last}
@@ -73,6 +77,23 @@ use Rattle.inbound.specs.declared.Phase.the-variants.{Done}
 use Rattle.history.specs.Numbers.{numberIn, answeredWith}
 use Rattle.history.specs.Refuses.{before, refuses, lendsBroken, lendsFull, turned}
 use Rattle.history.proofs.Refuses.{some-number, step-refuses}
+
+-- what a line's words stand for, here and there
+host-same : (at : ℕ) (l : Maybe) (o : Pair) (list : List ℕ) → hostBy at l o list ≡ hostOf at l o list
+unfolding hostOf
+host-same at l o list = both-same l o
+  where
+    both-same : (l : Maybe) (o : Pair) → hostBy at l o list ≡ record { at = at; live = liveOf l; offer = offerOf o; own = ownOf list }
+    both-same (maybe.Number v) (pair.Numbers conn stream) = refl
+    both-same (maybe.Number v) pair.None = refl
+    both-same maybe.None (pair.Numbers conn stream) = refl
+    both-same maybe.None pair.None = refl
+
+kind-same : (k : Kind) → inputOf k ≡ kindBy k
+kind-same kind.Ready = refl
+kind-same kind.Data = refl
+kind-same kind.End = refl
+kind-same kind.Closed = refl
 
 abbrev begunBy : Settings → Who → Begun
 begunBy s who = record { source = who .source; relay = who .relay; circuit = who .circuit; settings = s }
@@ -156,13 +177,13 @@ module _ (s : Settings) (j : Journal) (d : Diary) (m : Meets s j d) where
   room-same = keys-full (d .who .source .0) (windowsOf (j .ledger)) (expected (d .events)) (m .ledger .window-keys)
 
   up-follows : (at : ℕ) (l : Maybe) (o : Pair) (list : List ℕ) (peer : PeerId) (conn : ConnectionId) (relayed : Bool)
-      → Follows s d (apart (d .reply) (upTurn j (hostOf at l o list) peer conn relayed))
-      (refuses (broken list) false (d .book) (up emptyLedger (hostOf at l o list) peer conn relayed))
-      (says s d (up emptyLedger (hostOf at l o list) peer conn relayed))
-      (called s d (up emptyLedger (hostOf at l o list) peer conn relayed) (d .reply))
-  unfolding upTurn stepOf said back leftOf Noted tells note refuses lendsBroken lendsFull answeredWith hostOf
+      → Follows s d (apart (d .reply) (upTurn j (hostBy at l o list) peer conn relayed))
+      (refuses (broken list) false (d .book) (up emptyLedger (hostBy at l o list) peer conn relayed))
+      (says s d (up emptyLedger (hostBy at l o list) peer conn relayed))
+      (called s d (up emptyLedger (hostBy at l o list) peer conn relayed) (d .reply))
+  unfolding upTurn stepOf said back leftOf Noted tells note refuses lendsBroken lendsFull answeredWith
   up-follows at l o list peer conn relayed =
-      let h : Host = hostOf at l o list in
+      let h : Host = hostBy at l o list in
       let x : Call = up (j .ledger) h peer conn relayed in
       let f = step-answers k (j .circuit) (d .book) (m .rel) x in
       let a : Answer = upOf (j .circuit) (j .ledger) h peer conn relayed in
@@ -175,14 +196,14 @@ module _ (s : Settings) (j : Journal) (d : Diary) (m : Meets s j d) where
       (same-reply (isRefused (a .outcome)) (d .reply)))
 
   tick-follows : (at : ℕ) (l : Maybe) (o : Pair) (list : List ℕ)
-      → Follows s d (apart (d .reply) (tickTurn j (hostOf at l o list)))
-      (refuses (broken list) false (d .book) (tick emptyLedger (hostOf at l o list)))
-      (says s d (tick emptyLedger (hostOf at l o list)))
-      (adds (called s d (tick emptyLedger (hostOf at l o list)) (d .reply))
-      (event.ticked at ∷ called s d (tick emptyLedger (hostOf at l o list)) (d .reply) .events))
-  unfolding tickTurn stepOf said back leftOf Noted tells note refuses lendsBroken lendsFull answeredWith hostOf
+      → Follows s d (apart (d .reply) (tickTurn j (hostBy at l o list)))
+      (refuses (broken list) false (d .book) (tick emptyLedger (hostBy at l o list)))
+      (says s d (tick emptyLedger (hostBy at l o list)))
+      (adds (called s d (tick emptyLedger (hostBy at l o list)) (d .reply))
+      (event.ticked at ∷ called s d (tick emptyLedger (hostBy at l o list)) (d .reply) .events))
+  unfolding tickTurn stepOf said back leftOf Noted tells note refuses lendsBroken lendsFull answeredWith
   tick-follows at l o list =
-      let h : Host = hostOf at l o list in
+      let h : Host = hostBy at l o list in
       let x : Call = tick (j .ledger) h in
       let f = step-answers k (j .circuit) (d .book) (m .rel) x in
       let a : Answer = tickOf (j .circuit) (j .ledger) h in
@@ -195,14 +216,14 @@ module _ (s : Settings) (j : Journal) (d : Diary) (m : Meets s j d) where
       (same-reply (isRefused (a .outcome)) (d .reply)))
 
   input-follows : (at : ℕ) (l : Maybe) (o : Pair) (list : List ℕ) (stream : StreamId) (kind : Kind) (bytes : List ℕ) (pending : Bool)
-      → Follows s d (inputTurn j (hostOf at l o list) (d .reply) stream kind bytes pending)
-      (refuses (broken list) (noRoom d) (d .book) (input emptyLedger (d .reply) (hostOf at l o list) stream (inputOf kind) bytes pending))
-      (says s d (input emptyLedger (d .reply) (hostOf at l o list) stream (inputOf kind) bytes pending))
-      (called s d (input emptyLedger (d .reply) (hostOf at l o list) stream (inputOf kind) bytes pending)
-      (gathers (hostOf at l o list) (d .reply) stream (inputOf kind) bytes (d .book .stage)))
-  unfolding inputTurn stepOf said back leftOf Noted tells note buffer bufferIs buffer-of refuses lendsBroken lendsFull answeredWith hostOf
+      → Follows s d (inputTurn j (hostBy at l o list) (d .reply) stream kind bytes pending)
+      (refuses (broken list) (noRoom d) (d .book) (input emptyLedger (d .reply) (hostBy at l o list) stream (inputOf kind) bytes pending))
+      (says s d (input emptyLedger (d .reply) (hostBy at l o list) stream (inputOf kind) bytes pending))
+      (called s d (input emptyLedger (d .reply) (hostBy at l o list) stream (inputOf kind) bytes pending)
+      (gathers (hostBy at l o list) (d .reply) stream (inputOf kind) bytes (d .book .stage)))
+  unfolding inputTurn stepOf said back leftOf Noted tells note buffer bufferIs buffer-of refuses lendsBroken lendsFull answeredWith
   input-follows at l o list stream kind bytes pending =
-      let h : Host = hostOf at l o list in
+      let h : Host = hostBy at l o list in
       let x : Call = input (j .ledger) (d .reply) h stream (inputOf kind) bytes pending in
       let f = step-answers k (j .circuit) (d .book) (m .rel) x in
       let a : Answer = circuit.inputOf (j .circuit) (j .ledger) h (d .reply) stream (inputOf kind) bytes pending .answer in
@@ -395,10 +416,37 @@ module _ (s : Settings) (j : Journal) (d : Diary) (m : Meets s j d) where
   unfolding turnOf
   turn-follows line (Start at source relay conn) = start-follows s j d m at source relay conn
   turn-follows line (Up at peer conn relayed l o pending own) =
-      once _ _ _ _ (up-follows s j d m at l o (digitsBytes line own) peer conn relayed)
+      once _ _ _ _
+      (subst
+      (λ (h : Host). Follows s d (apart (d .reply) (upTurn j h peer conn relayed))
+      (refuses (broken (digitsBytes line own)) false (d .book) (upBy line at peer conn relayed l o own))
+      (says s d (upBy line at peer conn relayed l o own)) (called s d (upBy line at peer conn relayed l o own) (d .reply)))
+      (host-same at l o (digitsBytes line own)) (up-follows s j d m at l o (digitsBytes line own) peer conn relayed))
   turn-follows line (Input at stream kind bytes l o pending own) =
-      once _ _ _ _ (input-follows s j d m at l o (digitsBytes line own) stream kind (digitsBytes line bytes) pending)
-  turn-follows line (Tick at l o own) = once _ _ _ _ (tick-follows s j d m at l o (digitsBytes line own))
+      once _ _ _ _
+      (subst
+      (λ (h : Host). Follows s d (inputTurn j h (d .reply) stream kind (digitsBytes line bytes) pending)
+      (refuses (broken (digitsBytes line own)) (noRoom d) (d .book) (inputBy line (d .reply) at stream kind bytes l o pending own))
+      (says s d (inputBy line (d .reply) at stream kind bytes l o pending own))
+      (called s d (inputBy line (d .reply) at stream kind bytes l o pending own)
+      (gathers (hostBy at l o (digitsBytes line own)) (d .reply) stream (kindBy kind) (digitsBytes line bytes) (d .book .stage))))
+      (host-same at l o (digitsBytes line own))
+      (subst
+      (λ (v : StreamInput). Follows s d
+      (inputTurn j (hostBy at l o (digitsBytes line own)) (d .reply) stream kind (digitsBytes line bytes) pending)
+      (refuses (broken (digitsBytes line own)) (noRoom d) (d .book)
+      (input emptyLedger (d .reply) (hostBy at l o (digitsBytes line own)) stream v (digitsBytes line bytes) pending))
+      (says s d (input emptyLedger (d .reply) (hostBy at l o (digitsBytes line own)) stream v (digitsBytes line bytes) pending))
+      (called s d (input emptyLedger (d .reply) (hostBy at l o (digitsBytes line own)) stream v (digitsBytes line bytes) pending)
+      (gathers (hostBy at l o (digitsBytes line own)) (d .reply) stream v (digitsBytes line bytes) (d .book .stage))))
+      (kind-same kind) (input-follows s j d m at l o (digitsBytes line own) stream kind (digitsBytes line bytes) pending)))
+  turn-follows line (Tick at l o own) =
+      once _ _ _ _
+      (subst
+      (λ (h : Host). Follows s d (apart (d .reply) (tickTurn j h))
+      (refuses (broken (digitsBytes line own)) false (d .book) (tickBy line at l o own)) (says s d (tickBy line at l o own))
+      (adds (called s d (tickBy line at l o own) (d .reply)) (event.ticked at ∷ called s d (tickBy line at l o own) (d .reply) .events)))
+      (host-same at l o (digitsBytes line own)) (tick-follows s j d m at l o (digitsBytes line own)))
   turn-follows line (Wrote at conn stream) = once _ _ _ _ (wrote-follows s j d m at conn stream)
   turn-follows line (Down at peer conn) = once _ _ _ _ (down-follows s j d m at peer conn)
   turn-follows line (Dial at conn token id) = once _ _ _ _ (dial-follows s j d m conn token id)

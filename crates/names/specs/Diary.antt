@@ -20,7 +20,17 @@ use Rattle.path.specs.declared.FoundPath.the-variants as found
 use Rattle.ledger.specs.Ledger.{emptyLedger}
 use Rattle.fields.specs.declared.Maybe.{Maybe}
 use Rattle.fields.specs.declared.Pair.{Pair}
+use Rattle.fields.specs.declared.Maybe.the-variants as maybe
+use Rattle.fields.specs.declared.Pair.the-variants as pair
 use Rattle.inbound.specs.declared.Settings.{Settings}
+use Rattle.inbound.specs.declared.Host.{Host}
+use Rattle.inbound.specs.declared.Live.{Live}
+use Rattle.inbound.specs.declared.Live.the-variants as live
+use Rattle.inbound.specs.declared.Offer.{Offer}
+use Rattle.inbound.specs.declared.Offer.the-variants as offer
+use Rattle.inbound.specs.declared.StreamInput.{StreamInput}
+use Rattle.inbound.specs.declared.StreamInput.the-variants as stream
+use Rattle.inbound.specs.Input.{ownOf}
 use Rattle.history.specs.Calls.{Call, up, input, tick, wrote, down}
 use Rattle.history.specs.Book.{Book, Who, fresh, note}
 use Rattle.history.specs.Refuses.{refuses, turned}
@@ -29,6 +39,7 @@ use Rattle.history.specs.Answers.{whoOf, saidIn}
 use Rattle.history.specs.Questions.{isOver}
 use Rattle.journal_lines.specs.declared.Digits.{Digits}
 use Rattle.journal_lines.specs.declared.Kind.{Kind}
+use Rattle.journal_lines.specs.declared.Kind.the-variants as kind
 use Rattle.journal_lines.specs.declared.Line.{Line}
 use Rattle.journal_lines.specs.declared.Line.the-variants.{Start, Up, Input, Tick, Wrote, Down, Dial, Forget, Attribute, Unknown}
 use Rattle.journal_effects.specs.declared.Effects.{Effects}
@@ -36,7 +47,7 @@ use Rattle.journal_turns.specs.declared.Journal.{Journal}
 use Rattle.journal_turns.specs.declared.Turn.{Turn}
 use Rattle.journal_turns.specs.declared.Said.{Said}
 use Rattle.journal_turns.specs.declared.Said.the-variants as said
-use Rattle.journal_turns.specs.Turns.{newJournal, hostOf, digitsBytes, inputOf, read, lineTurn}
+use Rattle.journal_turns.specs.Turns.{newJournal, digitsBytes, read, lineTurn}
 use Rattle.names.specs.Events.{Event, dialed, gotName, forgot, replied, gaveUp, ticked, directName, dialing, named, expected, isFull}
 
 pub record Diary : Type 0 where
@@ -46,17 +57,36 @@ pub record Diary : Type 0 where
   pub reply : List ℕ
   pub events : List Event
 
--- ---- the circuit's calls that lines make; the book does not look at the ledger that is lent
+-- ---- the circuit's calls that lines make (section 12.5)
 
+-- `live`, `offer` and `kind`
+abbrev pub liveBy : Maybe → Live
+liveBy (maybe.Number v) = live.On (record { 0 = v })
+liveBy maybe.None = live.Nothing
+
+abbrev pub offerBy : Pair → Offer
+offerBy (pair.Numbers conn stream) = offer.Stream (record { 0 = conn }) (record { 0 = stream })
+offerBy pair.None = offer.Nothing
+
+abbrev pub kindBy : Kind → StreamInput
+kindBy kind.Ready = stream.Ready
+kindBy kind.Data = stream.Data
+kindBy kind.End = stream.RemoteWriteClosed
+kindBy kind.Closed = stream.Closed
+
+abbrev pub hostBy : ℕ → Maybe → Pair → List ℕ → Host
+hostBy at l o own = record { at = at; live = liveBy l; offer = offerBy o; own = ownOf own }
+
+-- the book does not look at the ledger that is lent
 abbrev pub upBy : List ℕ → ℕ → PeerId → ConnectionId → Bool → Maybe → Pair → Digits → Call
-upBy line at peer conn relayed l o own = up emptyLedger (hostOf at l o (digitsBytes line own)) peer conn relayed
+upBy line at peer conn relayed l o own = up emptyLedger (hostBy at l o (digitsBytes line own)) peer conn relayed
 
 abbrev pub inputBy : List ℕ → List ℕ → ℕ → StreamId → Kind → Digits → Maybe → Pair → Bool → Digits → Call
 inputBy line reply at stream k bytes l o pending own =
-    input emptyLedger reply (hostOf at l o (digitsBytes line own)) stream (inputOf k) (digitsBytes line bytes) pending
+    input emptyLedger reply (hostBy at l o (digitsBytes line own)) stream (kindBy k) (digitsBytes line bytes) pending
 
 abbrev pub tickBy : List ℕ → ℕ → Maybe → Pair → Digits → Call
-tickBy line at l o own = tick emptyLedger (hostOf at l o (digitsBytes line own))
+tickBy line at l o own = tick emptyLedger (hostBy at l o (digitsBytes line own))
 
 -- ---- what an accepted line adds
 
@@ -98,7 +128,7 @@ entered s line d (Start at source relay conn) =
 entered s line d (Up at peer conn relayed l o pending own) = called s d (upBy line at peer conn relayed l o own) (d .reply)
 entered s line d (Input at stream k bytes l o pending own) =
     called s d (inputBy line (d .reply) at stream k bytes l o pending own)
-    (gathers (hostOf at l o (digitsBytes line own)) (d .reply) stream (inputOf k) (digitsBytes line bytes) (d .book .stage))
+    (gathers (hostBy at l o (digitsBytes line own)) (d .reply) stream (kindBy k) (digitsBytes line bytes) (d .book .stage))
 entered s line d (Tick at l o own) = adds after (ticked at ∷ after .events)
   where
     after : Diary
