@@ -5,3 +5,4 @@ pub mod VarintAgain
 pub mod Frames
 pub mod Entries
 pub mod Listed
+pub mod ByRule

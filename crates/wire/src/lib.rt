@@ -6,6 +6,7 @@ ghost use Prim.Native.Nat.{ℕ, _+_, _<_, _≤_, _^_};
 ghost use lib.ListN.{length, getD, take};
 ghost use lib.Seq.{sets};
 ghost use Rattle.wire.specs.Varint.{spanOf, valueOf, varintOf, encoded};
+ghost use Rattle.wire.specs.Bytes.{IsVarint, sum};
 ghost use Rattle.wire.specs.Frame.{maxMessageSize, reached, frameFrom, frameOf, framed};
 ghost use Rattle.wire.specs.Lists.{entryAt, entries, broken, entry, listed};
 
@@ -268,6 +269,12 @@ pub fn put_entry(address: &[u8], out: &mut [u8], at: usize)
 }
 
 // ---- Theorems
+
+// A varint in front is read as the number that its bytes say; where none stands in front, what is read is malformed.
+pub fn varint_by_the_rule()
+    ensures read { λ r. ⌜ ((bs rest : List ℕ) → IsVarint bs → varintOf (bs ++ rest) ≡ Varint.Value (sum 1 bs) (length bs)) ⌝ }
+    ensures malformed { λ r. ⌜ ((s : List ℕ) → ((bs rest : List ℕ) → IsVarint bs → s ≡ bs ++ rest → ⊥) → varintOf s ≡ Varint.Malformed) ⌝ }
+{}
 
 // What put_varint stores is read again, whatever follows.
 pub fn varint_read_back()
