@@ -13,7 +13,6 @@ use Rattle.refusal.specs.declared.Refusal.the-variants.{UnknownLine}
 use Rattle.line_program.specs.declared.Reading.{Reading}
 use Rattle.line_program.specs.Reads.{left, feed, Read, NextLine}
 use Rattle.journal_lines.specs.declared.First.{First}
-use Rattle.journal_lines.specs.declared.First.the-variants as first
 use Rattle.journal_prints.specs.Room.{room, isRefused}
 use Rattle.journal_prints.proofs.Room.{short}
 use Rattle.journal_turns.specs.Turns.{longest}
@@ -24,7 +23,9 @@ use Rattle.journal_text.proofs.Cutting.{lines as law, long-first}
 use Rattle.journal.specs.declared.Ending.{Ending}
 use Rattle.journal.specs.Steps.{State, state, taken, put}
 use Rattle.journal.specs.Runs.{bytesOf, endless, Ran, firstIn, behindFirst, unread, replayed, Replayed}
-use Rattle.journal.proofs.Running.{Line, apart, none, by-buffer, empty, some}
+use Rattle.line_program.proofs.GoingOn.{apart}
+use Rattle.journal.proofs.Running.{Line, none, by-buffer, empty, some}
+use Rattle.journal_lines.specs.declared.First.the-variants as first
 
 -- the program's line buffer
 pub zeros-long : (n : ℕ) → longest ≤ n → longest ≤ length {A = ℕ} (replicate n 0)
@@ -100,6 +101,7 @@ module _ (reply out : List ℕ) (zero : reply ≡ replicate 4098 0) (ho : 4 * ro
         waits = rw f;
         text = rw f;
         stopped = λ _ g _ _. apart (sym f ∙ g);
+        unwritten = λ g _. apart g;
         all = λ _ g _. apart (sym f ∙ g);
       }
 
@@ -134,6 +136,7 @@ module _ (reply out : List ℕ) (zero : reply ≡ replicate 4098 0) (ho : 4 * ro
               ∙ sym (ap (λ (z : State). z .waiting) (bad-state reply out ls (r .failed) v n));
           text = shown ∙ sym (ap (λ (t : Bool). pick t [] (textOf ls)) v ∙ bad-text ls n);
           stopped = λ _ _ _ good. apart (sym good ∙ n);
+          unwritten = λ v _. apart v;
           all = λ _ _ h. shown ∙ sym (whole-text h);
         }
 
@@ -272,6 +275,7 @@ module _ (reply out : List ℕ) (zero : reply ≡ replicate 4098 0) (ho : 4 * ro
           waits = ran .waits ∙ sym (ap (λ (z : State). z .waiting) stood);
           text = good-put;
           stopped = λ v f h _. ran .stopped v f (shorter h);
+          unwritten = λ v z. ran .unwritten v (sym (ap (λ (d : State). d .handed) stood) ∙ z);
           all =
               λ v f h.
               good-put

@@ -6,11 +6,9 @@ use Prim.Native.Nat.{ℕ, _+_, _*_, _<_, _≤_}
 use native.Mathlib.Omega.{arith}
 use lib.Dec.{ltb}
 use lib.ListN.{length, take, length-append, length-take}
-use borrow.Author.Tests.{lt-ltb, le-ltb, ltb-true, ltb-false}
-use Rattle.prelude.specs.Choice.{pick}
+use borrow.Author.Tests.{ltb-true, ltb-false}
 use Rattle.text.specs.Decimal.{most}
-use Rattle.text.specs.Printed.{printed, behind}
-use Rattle.text.proofs.Printing.{Laid, length-kept, fits, fits-place, full-place}
+use Rattle.text.proofs.Printing.{length-kept, fits, fits-place, full-place}
 use Rattle.line_program.specs.declared.Reading.{Reading}
 use Rattle.line_program.specs.Reads.{left, feed, Read, NextLine}
 use Rattle.journal_prints.specs.Room.{room}
@@ -19,8 +17,8 @@ use Rattle.journal_turns.specs.declared.Journal.{Journal}
 use Rattle.journal_text.specs.Texts.{lineText}
 use Rattle.journal_text.specs.Journals.{cut, linesOf, linesText}
 use Rattle.journal_text.proofs.Cutting.{lines as law, long-same}
+use Rattle.line_program.proofs.GoingOn.{apart}
 use Rattle.journal.specs.declared.Step.{Step}
-use Rattle.journal.specs.declared.Ending.{Ending}
 use Rattle.journal.specs.Steps.{isLine, handedAfter, State, state, taking, taken, stepOf, stepText, put}
 use Rattle.journal.specs.Runs.{bytesOf, endless, Ran}
 
@@ -57,10 +55,14 @@ text-more s (x ∷ xs) l =
 same-state : {j j′ : Journal} {a a′ x x′ : List ℕ} {v v′ : ℕ} (h : List ℕ) → j ≡ j′ → a ≡ a′ → x ≡ x′ → v ≡ v′ → state j a x v h ≡ state j′ a′ x′ v′ h
 same-state h p q r t = rw (p, q, r, t)
 
+end-none : (a b : List ℕ) → a ++ b ≡ [] → b ≡ []
+end-none [] b e = e
+end-none (x ∷ a) b e = absurd (omega (arith, ap length e))
+
 -- ---- how far a run has come
 
 -- each line so far was ended by a line feed
-pub record Open (before : State) (had rest : List ℕ) (j : Journal) (reply out : List ℕ) (w turns : ℕ) : Type 0 where
+pub record Open (before : State) (had rest : List ℕ) (j : Journal) (reply out : List ℕ) (w : ℕ) (v : Bool) (turns : ℕ) : Type 0 where
   pub brought : List ℕ
   pub lines : List Line
   pub handed : List ℕ
@@ -68,10 +70,11 @@ pub record Open (before : State) (had rest : List ℕ) (j : Journal) (reply out 
   pub stood : state j reply out w handed ≡ taken before lines
   pub text : put (state j reply out w handed) ≡ linesText (before .journal) (before .reply) lines
   pub ended : (r : List ℕ) → linesOf (bytesOf lines ++ r) ≡ lines ++ linesOf r
+  pub given : v ≡ false → handed ≡ [] → ⊥
   pub counted : most ≤ turns + length (bytesOf lines)
 
 -- the last reading met no line feed
-pub record Closed (before : State) (had rest : List ℕ) (j : Journal) (reply out : List ℕ) (w : ℕ) (r : Reading) : Type 0 where
+pub record Closed (before : State) (had rest : List ℕ) (j : Journal) (reply out : List ℕ) (w : ℕ) (v : Bool) (r : Reading) : Type 0 where
   pub brought : List ℕ
   pub lines : List Line
   pub unfinished : List ℕ
@@ -81,27 +84,25 @@ pub record Closed (before : State) (had rest : List ℕ) (j : Journal) (reply ou
   pub text : put (state j reply out w handed) ≡ linesText (before .journal) (before .reply) lines
   pub cutting : linesOf (bytesOf lines) ≡ lines
   pub dry : r .more ≡ false → r .failed ≡ false → unfinished ++ rest ≡ []
+  pub given : v ≡ false → handed ≡ [] → ⊥
   pub long : r .more ≡ true → endless ≤ length (bytesOf lines)
 
 pub record Going (before : State) (had block reply out : List ℕ) (s : Step) (turns : ℕ) : Type 0 where
-  pub goes : s .reading .ended ≡ true → Open before had (left block (s .reading .from) (s .reading .until)) (s .journal) reply out (s .waiting) turns
+  pub goes : s .reading .ended ≡ true → Open before had (left block (s .reading .from) (s .reading .until)) (s .journal) reply out (s .waiting) (s .written) turns
   pub stops : s .reading .ended ≡ false
-      → Closed before had (left block (s .reading .from) (s .reading .until)) (s .journal) reply out (s .waiting) (s .reading)
+      → Closed before had (left block (s .reading .from) (s .reading .until)) (s .journal) reply out (s .waiting) (s .written) (s .reading)
 
-open-cut : {before : State} {had rest : List ℕ} {j : Journal} {reply out : List ℕ} {w turns : ℕ} (o : Open before had rest j reply out w turns)
+open-cut : {before : State} {had rest : List ℕ} {j : Journal} {reply out : List ℕ} {w : ℕ} {v : Bool} {turns : ℕ} (o : Open before had rest j reply out w v turns)
     → linesOf (bytesOf (o .lines)) ≡ o .lines
 unfolding cut
 open-cut o = ap linesOf (sym (append-nil (bytesOf (o .lines)))) ∙ o .ended [] ∙ append-nil (o .lines)
 
-pub begin : (j : Journal) (reply out had : List ℕ) (turns : ℕ) → most ≤ turns → Open (state j reply out 0 []) had had j reply out 0 turns
+pub begin : (j : Journal) (reply out had : List ℕ) (turns : ℕ) → most ≤ turns → Open (state j reply out 0 []) had had j reply out 0 true turns
 unfolding bytesOf taken linesText
 begin j reply out had turns h =
-    record { brought = []; lines = []; handed = []; whole = append-nil had; stood = refl; text = refl; ended = λ r. refl; counted = omega arith }
+    record { brought = []; lines = []; handed = []; whole = append-nil had; stood = refl; text = refl; ended = λ r. refl; given = λ f _. apart f; counted = omega arith }
 
 -- ---- a line's buffer says what the line does
-
-pub apart : {A : Type 0} → true ≡ false → A
-apart e = let z : _≡_ {A = ℕ} 0 1 = cc in absurd (omega arith)
 
 pub none : (b : List ℕ) → length b ≡ 0 → b ≡ []
 none [] h = refl
@@ -169,13 +170,14 @@ Stepping mid line reply out j w block′ line′ reply′ out′ s =
     × ((s .waiting ≡ stepOf (s .reading) line′ j reply out w .waiting)
     × ((4 * room ≤ length out
     → stepOf (s .reading) line′ j reply out w .handed ++ take (s .waiting) out′ ≡ take w out ++ stepText (s .reading) line′ j reply)
-    × NextLine line mid block′ line′ (s .reading)))))
+    × ((4 * room ≤ length out → stepOf (s .reading) line′ j reply out w .handed ≡ [] → s .written ≡ true)
+    × NextLine line mid block′ line′ (s .reading))))))
 
-module _ {before : State} {had mid line reply out : List ℕ} {j : Journal} {w turns : ℕ}
-    (o : Open before had mid j reply out w turns) (hl : longest ≤ length line) (ho : 4 * room ≤ length out)
+module _ {before : State} {had mid line reply out : List ℕ} {j : Journal} {w : ℕ} {v : Bool} {turns : ℕ}
+    (o : Open before had mid j reply out w v turns) (hl : longest ≤ length line) (ho : 4 * room ≤ length out)
     (s : Step) {block′ line′ reply′ out′ : List ℕ} (k : Stepping mid line reply out j w block′ line′ reply′ out′ s) where
   abbrev read : Read line 0 mid block′ line′ (s .reading)
-  read = k .1 .1 .1 .1 .1 .read
+  read = k .1 .1 .1 .1 .1 .1 .read
 
   abbrev rest : List ℕ
   rest = left block′ (s .reading .from) (s .reading .until)
@@ -194,11 +196,11 @@ module _ {before : State} {had mid line reply out : List ℕ} {j : Journal} {w t
 
     stepped : stepOf (s .reading) line′ j reply out w ≡ taking (state j reply out w []) l
     unfolding stepOf taking lineText
-    stepped = rw (e, same-line (k .1 .1 .1 .1 .1) hl j reply)
+    stepped = rw (e, same-line (k .1 .1 .1 .1 .1 .1) hl j reply)
 
     printing : stepText (s .reading) line′ j reply ≡ lineText j reply (l .0) (l .1)
     unfolding stepText lineText
-    printing = rw (e, same-line (k .1 .1 .1 .1 .1) hl j reply)
+    printing = rw (e, same-line (k .1 .1 .1 .1 .1 .1) hl j reply)
 
     took-stood : state (s .journal) reply′ out′ (s .waiting) (o .handed ++ handedAfter out w) ≡ taken before (o .lines ++ (l ∷ []))
     unfolding taking
@@ -227,6 +229,9 @@ module _ {before : State} {had mid line reply out : List ℕ} {j : Journal} {w t
         ∙ ap (λ (z : State). linesText (before .journal) (before .reply) (o .lines) ++ lineText (z .journal) (z .reply) (l .0) (l .1)) (o .stood)
         ∙ sym (text-more before (o .lines) l)
 
+    took-given : s .written ≡ false → o .handed ++ handedAfter out w ≡ [] → ⊥
+    took-given f z = apart (sym (k .1 .1 .1 .1 .1 .0 ho (over ∙ end-none (o .handed) (handedAfter out w) z)) ∙ f)
+
     took-whole : had ++ (o .brought ++ read .brought) ≡ bytesOf (o .lines ++ (l ∷ [])) ++ rest
     took-whole =
         grown
@@ -242,6 +247,9 @@ module _ {before : State} {had mid line reply out : List ℕ} {j : Journal} {w t
 
     left-stood : state (s .journal) reply′ out′ (s .waiting) (o .handed) ≡ taken before (o .lines)
     left-stood = rw (k .0, k .1 .0, k .1 .1 .0, k .1 .1 .1 .0, stayed) (o .stood)
+
+    left-given : s .written ≡ false → o .handed ≡ [] → ⊥
+    left-given f _ = apart (sym (k .1 .1 .1 .1 .1 .0 ho (ap (λ (z : State). z .handed) stayed)) ∙ f)
 
     left-text : put (state (s .journal) reply′ out′ (s .waiting) (o .handed)) ≡ linesText (before .journal) (before .reply) (o .lines)
     left-text = rw (k .1 .1 .0, k .1 .1 .1 .0, stayed) (o .text)
@@ -270,7 +278,7 @@ module _ {before : State} {had mid line reply out : List ℕ} {j : Journal} {w t
         ∙ ap (λ (t : Bool). o .lines ++ ((read .text, t) ∷ linesOf r)) (sym e)
         ∙ sym (append-assoc (o .lines) (l there ∷ []) (linesOf r))
 
-    gone : (turns′ : ℕ) → turns ≤ turns′ + 1 → Open before had rest (s .journal) reply′ out′ (s .waiting) turns′
+    gone : (turns′ : ℕ) → turns ≤ turns′ + 1 → Open before had rest (s .journal) reply′ out′ (s .waiting) (s .written) turns′
     gone turns′ h =
         record {
           brought = o .brought ++ read .brought;
@@ -280,6 +288,7 @@ module _ {before : State} {had mid line reply out : List ℕ} {j : Journal} {w t
           stood = took-stood there;
           text = took-text there;
           ended = goes-ended;
+          given = took-given there;
           counted =
               let f : length (feed (s .reading .ended)) ≡ 1 = ap (λ (t : Bool). length (feed t)) e in
               omega (
@@ -293,7 +302,7 @@ module _ {before : State} {had mid line reply out : List ℕ} {j : Journal} {w t
 
   -- none did
   module _ (e : s .reading .ended ≡ false) where
-    failing : s .reading .failed ≡ true → Closed before had rest (s .journal) reply′ out′ (s .waiting) (s .reading)
+    failing : s .reading .failed ≡ true → Closed before had rest (s .journal) reply′ out′ (s .waiting) (s .written) (s .reading)
     failing f =
         let n : isLine (s .reading .failed) (s .reading .ended) (s .reading .used) ≡ false = rw f in
         record {
@@ -306,14 +315,15 @@ module _ {before : State} {had mid line reply out : List ℕ} {j : Journal} {w t
           text = left-text n;
           cutting = open-cut o;
           dry = λ _ g. apart (sym f ∙ g);
+          given = left-given n;
           long = λ m. apart (sym m ∙ read .failing f);
         }
 
     module _ (f : s .reading .failed ≡ false) where
-      ending : ltb 0 (s .reading .used) ≡ false → Closed before had rest (s .journal) reply′ out′ (s .waiting) (s .reading)
+      ending : ltb 0 (s .reading .used) ≡ false → Closed before had rest (s .journal) reply′ out′ (s .waiting) (s .written) (s .reading)
       ending u =
           let n : isLine (s .reading .failed) (s .reading .ended) (s .reading .used) ≡ false = rw (f, e, u) in
-          let z : length (read .text) ≡ 0 = empty (k .1 .1 .1 .1 .1) hl u in
+          let z : length (read .text) ≡ 0 = empty (k .1 .1 .1 .1 .1 .1) hl u in
           record {
             brought = o .brought ++ read .brought;
             lines = o .lines;
@@ -324,10 +334,11 @@ module _ {before : State} {had mid line reply out : List ℕ} {j : Journal} {w t
             text = left-text n;
             cutting = open-cut o;
             dry = λ m _. ap (λ (b : List ℕ). b ++ rest) (none (read .text) z) ∙ read .dry m .1;
-            long = λ m. absurd (omega (arith, z, k .1 .1 .1 .1 .1 .long e m));
+            given = left-given n;
+            long = λ m. absurd (omega (arith, z, k .1 .1 .1 .1 .1 .1 .long e m));
           }
 
-      last : ltb 0 (s .reading .used) ≡ true → Closed before had rest (s .journal) reply′ out′ (s .waiting) (s .reading)
+      last : ltb 0 (s .reading .used) ≡ true → Closed before had rest (s .journal) reply′ out′ (s .waiting) (s .written) (s .reading)
       last u =
           let t : isLine (s .reading .failed) (s .reading .ended) (s .reading .used) ≡ true = rw (f, e, u) in
           record {
@@ -344,30 +355,31 @@ module _ {before : State} {had mid line reply out : List ℕ} {j : Journal} {w t
                 ∙ ap (λ (d : Bool). bytesOf (o .lines) ++ (read .text ++ feed d)) e
                 ∙ ap (λ (b : List ℕ). bytesOf (o .lines) ++ b) (append-nil (read .text)))
                 ∙ o .ended (read .text)
-                ∙ ap (λ (b : List Line). o .lines ++ b) (law .last (read .text) (read .plain) (some (k .1 .1 .1 .1 .1) hl u))
+                ∙ ap (λ (b : List Line). o .lines ++ b) (law .last (read .text) (read .plain) (some (k .1 .1 .1 .1 .1 .1) hl u))
                 ∙ ap (λ (d : Bool). o .lines ++ ((read .text, d) ∷ [])) (sym e);
             dry = λ m _. read .dry m .1;
+            given = took-given t;
             long = λ m.
                 omega (
                   arith,
-                  k .1 .1 .1 .1 .1 .long e m,
+                  k .1 .1 .1 .1 .1 .1 .long e m,
                   ap length (bytes-more (o .lines) (l t)),
                   length-append (bytesOf (o .lines)) (read .text ++ feed (s .reading .ended)),
                   length-append (read .text) (feed (s .reading .ended)),
                 );
           }
 
-      stopped : Closed before had rest (s .journal) reply′ out′ (s .waiting) (s .reading)
+      stopped : Closed before had rest (s .journal) reply′ out′ (s .waiting) (s .written) (s .reading)
       stopped = go (ltb 0 (s .reading .used)) refl
         where
-          go : (t : Bool) → ltb 0 (s .reading .used) ≡ t → Closed before had rest (s .journal) reply′ out′ (s .waiting) (s .reading)
+          go : (t : Bool) → ltb 0 (s .reading .used) ≡ t → Closed before had rest (s .journal) reply′ out′ (s .waiting) (s .written) (s .reading)
           go true u = last u
           go false u = ending u
 
   pub going : (turns′ : ℕ) → turns ≤ turns′ + 1 → Going before had block′ reply′ out′ s turns′
   going turns′ h = record { goes = λ e. gone e turns′ h; stops = λ e. go e (s .reading .failed) refl }
     where
-      go : s .reading .ended ≡ false → (t : Bool) → s .reading .failed ≡ t → Closed before had rest (s .journal) reply′ out′ (s .waiting) (s .reading)
+      go : s .reading .ended ≡ false → (t : Bool) → s .reading .failed ≡ t → Closed before had rest (s .journal) reply′ out′ (s .waiting) (s .written) (s .reading)
       go e true f = failing e f
       go e false f = stopped e f
 
@@ -378,7 +390,7 @@ pub finished : {before : State} {had block reply out : List ℕ} {turns : ℕ} (
     → Ran before had block reply out (record { reading = s .reading; waiting = s .waiting; written = s .written })
 finished {before} {had} {block} {reply} {out} {turns} s g z = go (s .reading .ended) refl
   where
-    ends : (c : Closed before had (left block (s .reading .from) (s .reading .until)) (s .journal) reply out (s .waiting) (s .reading)) (t : Bool)
+    ends : (c : Closed before had (left block (s .reading .from) (s .reading .until)) (s .journal) reply out (s .waiting) (s .written) (s .reading)) (t : Bool)
         → s .reading .more ≡ t → s .reading .failed ≡ false → length (bytesOf (c .lines)) < endless
         → (s .reading .more ≡ false) × (c .unfinished ++ left block (s .reading .from) (s .reading .until) ≡ [])
     ends c true m f b = absurd (omega (arith, c .long m))
@@ -398,6 +410,7 @@ finished {before} {had} {block} {reply} {out} {turns} s g z = go (s .reading .en
           waits = ap (λ (x : State). x .waiting) (o .stood);
           text = ap put (sym (o .stood)) ∙ o .text;
           stopped = λ v f b. absurd (omega (arith, z e v, o .counted));
+          unwritten = λ f n. o .given f (ap (λ (x : State). x .handed) (o .stood) ∙ n);
         }
     go false e =
         let c = g .stops e in
@@ -412,4 +425,5 @@ finished {before} {had} {block} {reply} {out} {turns} s g z = go (s .reading .en
           waits = ap (λ (x : State). x .waiting) (c .stood);
           text = ap put (sym (c .stood)) ∙ c .text;
           stopped = λ v f b. ends c (s .reading .more) refl f b;
+          unwritten = λ f n. c .given f (ap (λ (x : State). x .handed) (c .stood) ∙ n);
         }

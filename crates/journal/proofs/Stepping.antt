@@ -2,11 +2,11 @@
 use mathlib.Core.Path.{_≡_, refl, sym, ap, _∙_}
 use mathlib.Core.List.{List, [], _++_, append-nil}
 use mathlib.Core.Bool.{Bool, true, false}
-use Prim.Native.Nat.{ℕ, _+_, _*_, _≤_}
+use Prim.Native.Nat.{ℕ, _+_, _*_, _<_, _≤_}
 use native.Mathlib.Omega.{arith}
 use lib.Dec.{leb}
-use lib.ListN.{length, take}
-use borrow.Author.Tests.{leb-true}
+use lib.ListN.{length, take, length-take}
+use borrow.Author.Tests.{leb-true, leb-false}
 use Rattle.prelude.specs.Choice.{pick}
 use Rattle.text.specs.Printed.{printed, behind}
 use Rattle.text.proofs.Printing.{behind-within}
@@ -32,9 +32,21 @@ module _ (out : List ℕ) (waiting w q : ℕ) (x t : List ℕ) where
   unfolding waitingAfter handedAfter
   step-whole = go (leb (waiting + 4 * room) (length out)) refl
 
+-- nothing is handed over only where there is room
+step-written : (out : List ℕ) (waiting : ℕ) {v : Bool} → (leb (waiting + 4 * room) (length out) ≡ true → v ≡ true) → 4 * room ≤ length out
+    → handedAfter out waiting ≡ [] → v ≡ true
+unfolding handedAfter
+step-written out waiting {v} f h = go (leb (waiting + 4 * room) (length out)) refl
+  where
+    go : (b : Bool) → leb (waiting + 4 * room) (length out) ≡ b → pick b [] (take waiting out) ≡ [] → v ≡ true
+    go true e z = f e
+    go false e z =
+        let l : length out < waiting + 4 * room = leb-false (waiting + 4 * room) (length out) e in
+        absurd (omega (arith, ap length z, length-take waiting out))
+
 module _ (s : Reading) (line : List ℕ) (j : Journal) (reply out : List ℕ) (waiting : ℕ) where
-  pub step-made : {a : Journal} {b x : List ℕ} {w q : ℕ} {R : Type 0} → isLine (s .failed) (s .ended) (s .used) ≡ true
-      → w ≡ waitingAfter (length out) waiting
+  pub step-made : {a : Journal} {b x : List ℕ} {w q : ℕ} {v : Bool} {R : Type 0} → isLine (s .failed) (s .ended) (s .used) ≡ true
+      → (w ≡ waitingAfter (length out) waiting) × (leb (waiting + 4 * room) (length out) ≡ true → v ≡ true)
       → (a ≡ lineTurn j reply (take (s .used) line) (s .ended) .turn .journal)
       × ((b ≡ lineTurn j reply (take (s .used) line) (s .ended) .reply)
       × ((x ≡ printed out w (lineText j reply (take (s .used) line) (s .ended)))
@@ -45,11 +57,12 @@ module _ (s : Reading) (line : List ℕ) (j : Journal) (reply out : List ℕ) (w
       × ((b ≡ stepOf s line j reply out waiting .reply)
       × ((x ≡ stepOf s line j reply out waiting .out)
       × ((q ≡ stepOf s line j reply out waiting .waiting)
-      × ((4 * room ≤ length out → stepOf s line j reply out waiting .handed ++ take q x ≡ take waiting out ++ stepText s line j reply) × R))))
+      × ((4 * room ≤ length out → stepOf s line j reply out waiting .handed ++ take q x ≡ take waiting out ++ stepText s line j reply)
+      × ((4 * room ≤ length out → stepOf s line j reply out waiting .handed ≡ [] → v ≡ true) × R)))))
   unfolding stepOf stepText taking
   step-made {x = x} {w = w} {q = q} e f g r =
       rw e
-      (g .0, (g .1 .0, (g .1 .1 .0 ∙ ap (λ (n : ℕ). printed out n (lineText j reply (take (s .used) line) (s .ended))) f, (g .1 .1 .1 .0 ∙ ap (λ (n : ℕ). behind out n (lineText j reply (take (s .used) line) (s .ended))) f, (step-whole out waiting w q x _ f (g .1 .1 .1 .1), r)))))
+      (g .0, (g .1 .0, (g .1 .1 .0 ∙ ap (λ (n : ℕ). printed out n (lineText j reply (take (s .used) line) (s .ended))) (f .0), (g .1 .1 .1 .0 ∙ ap (λ (n : ℕ). behind out n (lineText j reply (take (s .used) line) (s .ended))) (f .0), (step-whole out waiting w q x _ (f .0) (g .1 .1 .1 .1), (step-written out waiting (f .1), r))))))
 
   pub step-left : {R : Type 0} → isLine (s .failed) (s .ended) (s .used) ≡ false
       → R
@@ -57,9 +70,10 @@ module _ (s : Reading) (line : List ℕ) (j : Journal) (reply out : List ℕ) (w
       × ((reply ≡ stepOf s line j reply out waiting .reply)
       × ((out ≡ stepOf s line j reply out waiting .out)
       × ((waiting ≡ stepOf s line j reply out waiting .waiting)
-      × ((4 * room ≤ length out → stepOf s line j reply out waiting .handed ++ take waiting out ≡ take waiting out ++ stepText s line j reply) × R))))
+      × ((4 * room ≤ length out → stepOf s line j reply out waiting .handed ++ take waiting out ≡ take waiting out ++ stepText s line j reply)
+      × ((4 * room ≤ length out → stepOf s line j reply out waiting .handed ≡ [] → true ≡ true) × R)))))
   unfolding stepOf stepText
-  step-left e r = rw e (refl, (refl, (refl, (refl, (λ _. sym (append-nil (take waiting out)), r)))))
+  step-left e r = rw e (refl, (refl, (refl, (refl, (λ _. sym (append-nil (take waiting out)), (λ _ _. refl, r))))))
 
   room-within : (t : Bool) → leb (waiting + 4 * room) (length out) ≡ t → pick t waiting 0 ≤ length out
   room-within true e = omega (arith, leb-true (waiting + 4 * room) (length out) e)

@@ -9,7 +9,6 @@ use Rattle.prelude.specs.Choice.{pick}
 use Rattle.text.specs.Printed.{printed, behind}
 use Rattle.line_program.specs.Reads.{left, feed}
 use Rattle.journal_lines.specs.declared.First.{First}
-use Rattle.journal_turns.specs.declared.Journal.{Journal}
 use Rattle.journal_text.specs.Texts.{firstOf, isGood, opened, openingText}
 use Rattle.journal_text.specs.Journals.{linesOf, linesText, textOf, journalText}
 use Rattle.journal.specs.declared.Ending.{Ending}
@@ -26,14 +25,14 @@ endless = 9223372036854775807
 
 -- ---- the lines behind the first
 
--- The block had these bytes left. With those that reads brought they are the lines that were taken, then those
--- of a line in which reading failed, then what the block has left: none is lost, none taken twice.
+-- The block had these bytes left. With those that reads brought they are the lines that were taken, then those of a line in which
+-- reading failed, then what the block has left: none is lost, none taken twice.
 pub record Ran (before : State) (had block reply out : List ℕ) (e : Ending) : Type 0 where
   pub brought : List ℕ
   pub lines : List (List ℕ × Bool)
   pub unfinished : List ℕ
   pub whole : had ++ brought ≡ bytesOf lines ++ (unfinished ++ left block (e .reading .from) (e .reading .until))
-  -- they are cut as the rule says
+  -- they are cut as the rule says (section 12.1)
   pub cut : linesOf (bytesOf lines) ≡ lines
   -- each was taken on what the one before it left, and all that they print was handed over or waits
   pub replies : reply ≡ taken before lines .reply
@@ -43,6 +42,8 @@ pub record Ran (before : State) (had block reply out : List ℕ) (e : Ending) : 
   -- it stopped where reading or writing failed, or else at the input's end, where no byte is left
   pub stopped : e .written ≡ true → e .reading .failed ≡ false → length (bytesOf lines) < endless
       → (e .reading .more ≡ false) × (unfinished ++ left block (e .reading .from) (e .reading .until) ≡ [])
+  -- writing fails only where something was handed over
+  pub unwritten : e .written ≡ false → taken before lines .handed ≡ [] → ⊥
 
 -- ---- the whole input
 
@@ -60,7 +61,7 @@ abbrev pub unread : Bool → List (List ℕ × Bool) → Bool
 unread failed [] = failed
 unread failed (first ∷ rest) = false
 
--- behind a good first line the others are taken; another prints what it is refused with; before it nothing is printed
+-- behind a good first line the others are taken; another prints what it is refused with (section 12.4); before it nothing is printed
 unfoldable pub replayed : Bool → List ℕ → List ℕ → List (List ℕ × Bool) → State
 replayed failed reply out lines =
     pick (unread failed lines) (state (opened (firstIn lines)) reply out 0 [])
@@ -68,6 +69,7 @@ replayed failed reply out lines =
     (state (opened (firstIn lines)) reply (printed out 0 (openingText (firstIn lines))) (behind out 0 (openingText (firstIn lines))) []))
 
 -- The bytes that reads brought are the lines that were taken, then those of a line in which reading failed, then what the block has left.
+-- Behind a first line that is not good none is taken (section 12.4).
 pub record Replayed (reply out block reply′ out′ : List ℕ) (e : Ending) : Type 0 where
   pub brought : List ℕ
   pub lines : List (List ℕ × Bool)
@@ -82,6 +84,7 @@ pub record Replayed (reply out block reply′ out′ : List ℕ) (e : Ending) : 
   -- it stopped where reading or writing failed, at a first line that is not good, or else at the input's end, where no byte is left
   pub stopped : e .written ≡ true → e .reading .failed ≡ false → length (bytesOf lines) < endless → isGood (firstIn lines) ≡ true
       → (e .reading .more ≡ false) × (unfinished ++ left block (e .reading .from) (e .reading .until) ≡ [])
+  pub unwritten : e .written ≡ false → replayed (e .reading .failed) reply out lines .handed ≡ [] → ⊥
   -- So where nothing failed it printed what the rule says of all bytes that were read.
   pub all : e .written ≡ true → e .reading .failed ≡ false → length (bytesOf lines) < endless
       → put (replayed (e .reading .failed) reply out lines) ≡ journalText brought

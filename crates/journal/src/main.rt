@@ -1,5 +1,6 @@
 // Replays a journal: reads it from standard input, and writes what its lines print to standard output (docs/RULES.md, section 12).
 ghost use mathlib.Core.Path.{_≡_};
+ghost use mathlib.Core.Bool.{true};
 ghost use Prim.Native.Nat.{_+_, _*_, _≤_};
 ghost use lib.Dec.{leb};
 ghost use lib.ListN.{length, take, replicate};
@@ -56,7 +57,8 @@ fn has_room(size: usize, waiting: usize) -> bool
 
 // Writes what waits where less than the room of a line is left.
 fn make_room(out: &[u8], waiting: usize) -> Waiting
-    ensures { λ r. ⌜ r .bytes ≡ waitingAfter (length (now (out .entry))) waiting ⌝ }
+    ensures bytes { λ r. ⌜ r .bytes ≡ waitingAfter (length (now (out .entry))) waiting ⌝ }
+    ensures written { λ r. ⌜ (leb (waiting + 4 * room) (length (now (out .entry))) ≡ true → r .written ≡ true) ⌝ }
 {
     if has_room(out.len(), waiting) {
         return Waiting {
@@ -87,6 +89,7 @@ fn take_step(
     ensures out { λ r. ⌜ now (out .exit) ≡ stepOf (r .reading) (now (line .exit)) j (now (reply .entry)) (now (out .entry)) waiting .out ⌝ }
     ensures waiting { λ r. ⌜ r .waiting ≡ stepOf (r .reading) (now (line .exit)) j (now (reply .entry)) (now (out .entry)) waiting .waiting ⌝ }
     ensures whole { λ r. ⌜ (4 * room ≤ length (now (out .entry)) → stepOf (r .reading) (now (line .exit)) j (now (reply .entry)) (now (out .entry)) waiting .handed ++ take (r .waiting) (now (out .exit)) ≡ take waiting (now (out .entry)) ++ stepText (r .reading) (now (line .exit)) j (now (reply .entry))) ⌝ }
+    ensures written { λ r. ⌜ (4 * room ≤ length (now (out .entry)) → stepOf (r .reading) (now (line .exit)) j (now (reply .entry)) (now (out .entry)) waiting .handed ≡ [] → r .written ≡ true) ⌝ }
     ensures read { λ r. ⌜ NextLine (now (line .entry)) (left (now (block .entry)) from until) (now (block .exit)) (now (line .exit)) (r .reading) ⌝ }
 {
     let s = line_program::next_line(block, line, from, until);
@@ -117,8 +120,8 @@ pub struct Ending {
     pub written: bool,
 }
 
-// Goes through the lines behind the first. One step stands before the loop, so that the loop carries what a step leaves and no more. A
-// proved loop has to end, so it counts its turns down from a number that no run uses up.
+// Goes through the lines behind the first, up to one that no line feed ended. One step stands before the loop, so that the loop carries
+// what a step leaves and no more. A proved loop has to end, so it counts its turns down from a number that no run uses up.
 fn run(
     block: &mut [u8],
     line: &mut [u8],

@@ -60,8 +60,8 @@ split s = go (ltb (lengthBefore 10 s) (length s)) refl
 
 -- ---- the steps
 
-pub true-not-false : true ≡ false → ⊥
-true-not-false e = let z : _≡_ {A = ℕ} 0 1 = cc in absurd (omega arith)
+pub apart : {A : Type 0} → true ≡ false → A
+apart e = let z : _≡_ {A = ℕ} 0 1 = cc in absurd (omega arith)
 
 -- nothing has been read yet
 unread : (line block : List ℕ) (r : Reading) → r .ended ≡ false → r .more ≡ true → (r .failed ≡ true → r .more ≡ false) → Read line (r .used) (left block (r .from) (r .until)) block line r
@@ -74,7 +74,7 @@ unread line block r e m f =
       plain = refl;
       bytes = laid-none line (r .used) .bytes;
       place = laid-none line (r .used) .place;
-      dry = λ d. absurd (true-not-false (sym m ∙ d));
+      dry = λ d. apart (sym m ∙ d);
       failing = f;
     }
 
@@ -154,8 +154,8 @@ by-block block line used from until {g} {after} e f h k = record { read = read; 
       plain = plain-before (left block from until);
       bytes = f;
       place = ap (λ (x : Gathered). x .used) e;
-      dry = λ d. absurd (true-not-false d);
-      failing = λ d. absurd (true-not-false (sym d));
+      dry = λ d. apart d;
+      failing = λ d. apart (sym d);
     }
 
     -- without a line feed the line has all that was left
@@ -209,4 +209,4 @@ pub begun : (line block : List ℕ) (from until : ℕ) {stop : ℕ} → stop ≡
 begun line block from until {stop} e =
     subst (λ (had : List ℕ). Turned 0 line 0 had block line (record { used = 0; ended = false; more = true; failed = false; from = from; until = stop }))
     (ap (λ (k : ℕ). left block from k) e ∙ within block from until)
-    (record { read = unread line block (record { used = 0; ended = false; more = true; failed = false; from = from; until = stop }) refl refl (λ f. absurd (true-not-false (sym f))); taken = λ _ _. omega arith })
+    (record { read = unread line block (record { used = 0; ended = false; more = true; failed = false; from = from; until = stop }) refl refl (λ f. apart (sym f)); taken = λ _ _. omega arith })

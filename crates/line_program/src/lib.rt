@@ -1,5 +1,5 @@
 // What programs that answer standard input line by line share: the next line read, and a text written. No contract can say which bytes
-// come in; these say what becomes of them.
+// a read brings, nor whether a text was written; these say what becomes of the bytes that were brought.
 ghost use mathlib.Core.Path.{_≡_};
 ghost use mathlib.Core.Bool.{true};
 ghost use Prim.Native.Nat.{_≤_};
@@ -8,8 +8,8 @@ ghost use Rattle.line_program.specs.Reads.{left, refilled, Turned, NextL
 use libc::STDIN_FILENO;
 use libc::STDOUT_FILENO;
 
-// A line's bytes are the first `used` of its buffer, which a line too long fills. A line feed ended it, or the input ended or failed. The
-// block's bytes from `from` up to `until` are still to be read.
+// A line's bytes are the first `used` of its buffer, which a line too long fills. A line feed ended it, or the input ended, where there is
+// no `more`, or failed. The block's bytes from `from` up to `until` are still to be read.
 pub struct Reading {
     pub used: usize,
     pub ended: bool,
@@ -70,7 +70,7 @@ fn read_on(block: &mut [u8], line: &mut [u8], s: Reading) -> Reading
 }
 
 // Reads the next line, up to its line feed or the input's end, where the block's bytes from `from` up to `until` come first. A proved
-// loop has to end, so it counts its turns down from a number that no run uses up.
+// loop has to end, so it counts its turns down from a number that no line of fewer than 2^63 - 1 bytes uses up.
 pub fn next_line(block: &mut [u8], line: &mut [u8], from: usize, until: usize) -> Reading
     ensures used { λ r. ⌜ r .used ≤ length (now (line .entry)) ⌝ }
     ensures block { λ r. ⌜ r .until ≤ length (now (block .entry)) ⌝ }

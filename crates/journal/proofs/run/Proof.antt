@@ -8,8 +8,9 @@ use Rattle.text.specs.Decimal.{most}
 use Rattle.journal_prints.specs.Room.{room}
 use Rattle.journal_turns.specs.Turns.{longest}
 use Rattle.journal.specs.Steps.{State}
+use Rattle.line_program.proofs.GoingOn.{apart}
 use Rattle.journal.proofs.Stepping.{step-within}
-use Rattle.journal.proofs.Running.{Going, begin, going, finished, apart}
+use Rattle.journal.proofs.Running.{Going, begin, going, finished}
 use borrow.Author.Needs.{needs}
 use Rattle.journal.proofs.run.Statement.{statement}
 use Rattle.journal.proofs.run.Tie as tie

@@ -1,5 +1,5 @@
 use mathlib.Core.Path.{sym}
-use Rattle.line_program.proofs.GoingOn.{true-not-false}
+use Rattle.line_program.proofs.GoingOn.{apart}
 use borrow.Author.Needs.{needs}
 use Rattle.line_program.proofs.fill.Statement.{statement}
 use Rattle.line_program.proofs.fill.Tie as tie
@@ -20,7 +20,7 @@ same-length-2 : tie.Need-same-length-2
 same-length-2 c = search needs
 
 returns-2 : tie.Need-returns-2
-returns-2 c = (search needs, (search needs, λ e. absurd (true-not-false (sym e))))
+returns-2 c = (search needs, (search needs, λ e. apart (sym e)))
 
 pub fill-spec : {M : Type 1} → statement M
 fill-spec =

@@ -3,7 +3,7 @@ use Prim.Native.Nat.{_-_, _≤_}
 use lib.ListN.{length}
 use Rattle.line_program.specs.Reads.{left, Turned}
 use Rattle.text.specs.Decimal.{most}
-use Rattle.line_program.proofs.GoingOn.{goes-on, begun, not-yet, yet, true-not-false}
+use Rattle.line_program.proofs.GoingOn.{goes-on, begun, not-yet, yet, apart}
 use native.Mathlib.Omega.{arith}
 use borrow.Author.Needs.{needs}
 use Rattle.line_program.proofs.next_line.Statement.{statement}
@@ -40,7 +40,7 @@ same-length-2 : tie.Need-same-length-2 Inv-loop μ-loop
 same-length-2 c = c .before .before .before .before .loop .inv .2
 
 returns : tie.Need-returns Inv-loop μ-loop
-returns c = (omega arith, (omega arith, record { read = c .before .before .before .before .loop .inv .5 .read; long = λ e m. absurd (true-not-false (sym (yet _ (c .if2 .left)) ∙ e)) }))
+returns c = (omega arith, (omega arith, record { read = c .before .before .before .before .loop .inv .5 .read; long = λ e m. apart (sym (yet _ (c .if2 .left)) ∙ e) }))
 
 same-length-3 : tie.Need-same-length-3 Inv-loop μ-loop
 same-length-3 c = c .before .before .loop .inv .3
@@ -49,7 +49,7 @@ same-length-4 : tie.Need-same-length-4 Inv-loop μ-loop
 same-length-4 c = c .before .before .loop .inv .2
 
 returns-2 : tie.Need-returns-2 Inv-loop μ-loop
-returns-2 c = (omega arith, (omega arith, record { read = c .before .before .loop .inv .5 .read; long = λ e m. absurd (true-not-false (sym m ∙ c .if1 .left)) }))
+returns-2 c = (omega arith, (omega arith, record { read = c .before .before .loop .inv .5 .read; long = λ e m. apart (sym m ∙ c .if1 .left) }))
 
 same-length-5 : tie.Need-same-length-5 Inv-loop μ-loop
 same-length-5 c = c .before .loop .inv .3
