@@ -5,6 +5,9 @@ ghost use Rattle.text.specs.Words.{ascii};
 ghost use Rattle.journal_text.specs.Journals.{journalText, LineByLine, LongLinesAreOne};
 ghost use Rattle.journal_laws.specs.Laws.{RefusedChangesNothing, EveryLineCounts};
 ghost use Rattle.journal_laws.specs.Example.{input, printed};
+ghost use Rattle.journal_laws.specs.Names.{NamesInWords};
+ghost use Rattle.ids.specs.declared.PeerId.{PeerId};
+ghost use Rattle.journal_effects.specs.declared.Effects.{Effects};
 
 // A refused line leaves circuit, ledger, settings and reply buffer as they were.
 pub fn refused_line_changes_nothing()
@@ -30,4 +33,9 @@ pub fn long_lines_are_one()
 pub fn worked_example()
     ensures nothing { λ _. ⌜ journalText [] ≡ ascii "n=0 out=refused why=11\n" ⌝ }
     ensures example { λ _. ⌜ journalText input ≡ printed ⌝ }
+{}
+
+// Each name is printed in its words.
+pub fn names_in_words()
+    ensures { λ _. ⌜ ((e : Effects) (relay : PeerId) → NamesInWords e relay) ⌝ }
 {}

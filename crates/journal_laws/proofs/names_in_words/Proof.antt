@@ -1,0 +1,18 @@
+-- `journal_laws::names_in_words` meets its contract, which is the theorem: computed. Assumes nothing.
+use mathlib.Core.Path.{refl}
+use Rattle.ids.specs.declared.PeerId.{PeerId}
+use Rattle.text.specs.Decimal.{digitsOf}
+use Rattle.journal_effects.specs.declared.Effects.{Effects}
+use Rattle.journal_laws.specs.Names.{NamesInWords}
+use Rattle.journal_laws.proofs.names_in_words.Statement.{statement}
+use Rattle.journal_laws.proofs.names_in_words.Tie as tie
+
+in-words : (e : Effects) (relay : PeerId) → NamesInWords e relay
+unfolding digitsOf
+in-words e relay = record { relayed = refl; unnamed = refl; direct = refl; inbound = refl; attempt = refl }
+
+returns : tie.Need-returns
+returns c = in-words
+
+pub names-in-words-spec : {M : Type 1} → statement M
+names-in-words-spec = tie.close (tie.spec returns)
