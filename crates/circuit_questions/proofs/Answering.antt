@@ -6,9 +6,7 @@ use Prim.Native.Nat.{ℕ}
 use Rattle.text.specs.Words.{ascii}
 use Rattle.text.specs.Decimal.{decimal}
 use Rattle.text.specs.Printed.{printed, behind}
-use Rattle.journal_turns.specs.Turns.{lineTurn}
-use Rattle.journal_turns.specs.declared.Journal.{Journal}
-use Rattle.journal_turns.specs.declared.Turn.{Turn}
+use Rattle.journal_turns.specs.Turns.{Journal, Turned, lineTurn}
 use Rattle.circuit_questions.specs.declared.Answers.{Answers}
 use Rattle.circuit_questions.specs.Answers.{bit, answersOf, nextText, answersText, journalText, lineText}
 
@@ -17,16 +15,16 @@ pub answers-text : (n : ℕ) (a : Answers) {promotes claims : ℕ} → promotes 
 unfolding answersText
 answers-text n a e f = rw (e, f)
 
-pub line-answered : (j : Journal) (reply line : List ℕ) (ended : Bool) (o : List ℕ) {t : Turn} {a : Answers} {b x : List ℕ} {q : ℕ}
+pub line-answered : (j : Journal) (reply line : List ℕ) (ended : Bool) (o : List ℕ) (t : Turned) {a : Answers} {b x : List ℕ} {q : ℕ}
     → (t ≡ lineTurn j reply line ended .turn) × (b ≡ lineTurn j reply line ended .reply)
-    → a ≡ answersOf (t .journal .begun) (t .journal .circuit)
+    → a ≡ answersOf (t .journal .begun) (t .journal .circuit .core)
     → (x ≡ printed o 0 (answersText (t .journal .n) a)) × (q ≡ behind o 0 (answersText (t .journal .n) a))
     → (t .journal ≡ lineTurn j reply line ended .turn .journal)
     × ((b ≡ lineTurn j reply line ended .reply)
     × ((x ≡ printed o 0 (lineText j reply line ended)) × (q ≡ behind o 0 (lineText j reply line ended))))
 unfolding lineText
-line-answered j reply line ended o {t} {a} f g h =
-    let y : t .journal ≡ lineTurn j reply line ended .turn .journal = ap (λ (s : Turn). s .journal) (f .0) in
+line-answered j reply line ended o t {a} f g h =
+    let y : t .journal ≡ lineTurn j reply line ended .turn .journal = ap (λ (s : Turned). s .journal) (f .0) in
     let z : answersText (t .journal .n) a ≡ journalText (lineTurn j reply line ended .turn .journal)
     = ap (λ (s : Answers). answersText (t .journal .n) s) g ∙ ap journalText y in
     (y, (f .1, (h .0 ∙ ap (λ (s : List ℕ). printed o 0 s) z, h .1 ∙ ap (λ (s : List ℕ). behind o 0 s) z)))

@@ -6,14 +6,13 @@ use Rattle.prelude.specs.Choice.{pick}
 use Rattle.text.specs.Words.{ascii}
 use Rattle.text.specs.Decimal.{decimal}
 use Rattle.path.specs.declared.Claim.{Claim}
-use Rattle.inbound.specs.declared.Deadline.{Deadline}
-use Rattle.inbound.specs.declared.InboundCircuit.{InboundCircuit}
-use Rattle.inbound.specs.Circuit.{promotesOf, claimOf, nextDeadlineAt}
-use Rattle.journal_turns.specs.Turns.{lineTurn}
-use Rattle.journal_turns.specs.declared.Journal.{Journal}
+use Rattle.vocabulary.specs.declared.Deadline.{Deadline}
+use Rattle.inbound.specs.declared.state.Core.{Core}
+use Rattle.inbound.specs.Questions.{promotesOf, claimOf, nextDeadlineAt}
+use Rattle.journal_turns.specs.Turns.{Journal, lineTurn}
 use Rattle.circuit_questions.specs.declared.Answers.{Answers}
 use Rattle.path.specs.declared.Claim.the-variants as claim
-use Rattle.inbound.specs.declared.Deadline.the-variants as deadline
+use Rattle.vocabulary.specs.declared.Deadline.the-variants as deadline
 
 -- ---- the questions (section 11.9)
 
@@ -23,7 +22,7 @@ isClaim (claim.Circuit relay owner) = true
 isClaim (claim.Direct id) = true
 
 -- asked about the connection of the circuit's own number; no circuit is there to be asked until a start was accepted (section 12.5)
-unfoldable pub answersOf : Bool → InboundCircuit → Answers
+unfoldable pub answersOf : Bool → Core → Answers
 answersOf begun c =
     pick begun
     (record {
@@ -53,7 +52,7 @@ answersText n a =
 
 -- in the line's number, of the circuit as the line leaves it
 abbrev pub journalText : Journal → List ℕ
-journalText j = answersText (j .n) (answersOf (j .begun) (j .circuit))
+journalText j = answersText (j .n) (answersOf (j .begun) (j .circuit .core))
 
 -- the journal before a line, the reply buffer, the line without its line feed, and whether it had one (section 12.7)
 unfoldable pub lineText : Journal → List ℕ → List ℕ → Bool → List ℕ

@@ -4,13 +4,17 @@ ghost use mathlib.Core.Path.{_≡_};
 ghost use Prim.Native.Nat.{_≤_};
 ghost use lib.ListN.{length};
 ghost use Rattle.text.specs.Printed.{printed, behind};
-ghost use Rattle.journal_turns.specs.Turns.{lineTurn};
+ghost use Rattle.ledger.specs.Ledger.{tablesOf};
+ghost use Rattle.journal_turns.specs.Turns.{whole, lineTurn};
 ghost use Rattle.circuit_questions.specs.Answers.{isClaim, bit, answersOf, nextText, answersText, lineText};
-use inbound::Deadline;
-use inbound::InboundCircuit;
-use journal_turns::Journal;
+use frames::FrameBytes;
+use inbound::state::Core;
+use inbound::state::TargetBytes;
+use journal_turns::State;
+use ledger::Ledger;
 use line_program::Reading;
 use path::Claim;
+use vocabulary::Deadline;
 
 // ---- what the circuit answers
 
@@ -31,7 +35,7 @@ fn is_claim(claim: Claim) -> bool
 }
 
 // Before a start was accepted the journal's circuit is none that could be asked.
-fn ask(begun: bool, c: InboundCircuit) -> Answers
+fn ask(begun: bool, c: Core) -> Answers
     ensures { λ r. ⌜ r ≡ answersOf begun c ⌝ }
 {
     if begun {
@@ -91,24 +95,34 @@ fn put_answers(n: u64, a: Answers, out: &mut [u8]) -> usize
 
 // The journal after a line, and where the line printed of it ends in the buffer.
 pub struct Answered {
-    pub journal: Journal,
+    pub state: State,
     pub end: usize,
 }
 
 // A line behind the first, without its line feed; `ended` is whether it had one.
-fn answer_line(j: Journal, reply: &mut [u8], line: &[u8], ended: bool, out: &mut [u8]) -> Answered
-    ensures journal { λ r. ⌜ r .journal ≡ lineTurn j (now (reply .entry)) (now (line .entry)) ended .turn .journal ⌝ }
-    ensures reply { λ r. ⌜ now (reply .exit) ≡ lineTurn j (now (reply .entry)) (now (line .entry)) ended .reply ⌝ }
-    ensures bytes { λ r. ⌜ now (out .exit) ≡ printed (now (out .entry)) 0 (lineText j (now (reply .entry)) (now (line .entry)) ended) ⌝ }
-    ensures place { λ r. ⌜ r .end ≡ behind (now (out .entry)) 0 (lineText j (now (reply .entry)) (now (line .entry)) ended) ⌝ }
+fn answer_line(
+    j: State,
+    connect: &mut FrameBytes,
+    targets: &mut TargetBytes,
+    sent: &mut FrameBytes,
+    ledger: &mut Ledger,
+    reply: &mut [u8],
+    line: &[u8],
+    ended: bool,
+    out: &mut [u8],
+) -> Answered
+    ensures journal { λ r. ⌜ whole (r .state) (now (connect .exit)) (now (targets .exit)) (tablesOf (now (ledger .exit))) (now (ledger .exit)) (now (sent .exit)) ≡ lineTurn (whole j (now (connect .entry)) (now (targets .entry)) (tablesOf (now (ledger .entry))) (now (ledger .entry)) (now (sent .entry))) (now (reply .entry)) (now (line .entry)) ended .turn .journal ⌝ }
+    ensures reply { λ r. ⌜ now (reply .exit) ≡ lineTurn (whole j (now (connect .entry)) (now (targets .entry)) (tablesOf (now (ledger .entry))) (now (ledger .entry)) (now (sent .entry))) (now (reply .entry)) (now (line .entry)) ended .reply ⌝ }
+    ensures bytes { λ r. ⌜ now (out .exit) ≡ printed (now (out .entry)) 0 (lineText (whole j (now (connect .entry)) (now (targets .entry)) (tablesOf (now (ledger .entry))) (now (ledger .entry)) (now (sent .entry))) (now (reply .entry)) (now (line .entry)) ended) ⌝ }
+    ensures place { λ r. ⌜ r .end ≡ behind (now (out .entry)) 0 (lineText (whole j (now (connect .entry)) (now (targets .entry)) (tablesOf (now (ledger .entry))) (now (ledger .entry)) (now (sent .entry))) (now (reply .entry)) (now (line .entry)) ended) ⌝ }
 {
-    let t = journal_turns::take_line(j, reply, line, ended);
-    let next = t.journal;
-    let circuit = next.circuit;
-    let a = ask(next.begun, circuit);
+    let t = journal_turns::take_line(j, connect, targets, sent, ledger, reply, line, ended);
+    let next = t.state;
+    let core = next.core;
+    let a = ask(next.begun, core);
     let end = put_answers(next.n, a, out);
     Answered {
-        journal: next,
+        state: next,
         end: end,
     }
 }
@@ -118,65 +132,108 @@ fn answer_line(j: Journal, reply: &mut [u8], line: &[u8], ended: bool, out: &mut
 // Where the input stands behind a line, and the journal.
 pub struct Step {
     pub reading: Reading,
-    pub journal: Journal,
+    pub state: State,
 }
 
 // Answers the next line; the reading goes on where there was one, and its answer was written.
 fn answer_next(
     block: &mut [u8],
     line: &mut [u8],
+    connect: &mut FrameBytes,
+    targets: &mut TargetBytes,
+    sent: &mut FrameBytes,
+    ledger: &mut Ledger,
     reply: &mut [u8],
     out: &mut [u8],
     before: Step,
 ) -> Step
     ensures { λ r. ⌜ r .reading .until ≤ length (now (block .entry)) ⌝ }
 {
-    let j = before.journal;
+    let j = before.state;
     let mut s = line_program::next_line(block, line, before.reading.from, before.reading.until);
     if !s.ended && s.used == 0 {
         return Step {
             reading: s,
-            journal: j,
+            state: j,
         };
     }
     let used = s.used;
-    let a = answer_line(j, reply, &line[..used], s.ended, out);
-    let next = a.journal;
+    let a = answer_line(
+        j,
+        connect,
+        targets,
+        sent,
+        ledger,
+        reply,
+        &line[..used],
+        s.ended,
+        out,
+    );
+    let next = a.state;
     if !line_program::print(out, a.end) {
         s.more = false;
     }
     Step {
         reading: s,
-        journal: next,
+        state: next,
     }
 }
 
 // Goes through the lines behind the first. A proved loop has to end, so it counts its turns down from a number that no run uses up.
-fn run(block: &mut [u8], line: &mut [u8], reply: &mut [u8], out: &mut [u8], first: Step)
+fn run(
+    block: &mut [u8],
+    line: &mut [u8],
+    connect: &mut FrameBytes,
+    targets: &mut TargetBytes,
+    sent: &mut FrameBytes,
+    ledger: &mut Ledger,
+    reply: &mut [u8],
+    out: &mut [u8],
+    first: Step,
+)
     ensures { λ _. ⌜ length (now (out .exit)) ≡ length (now (out .entry)) ⌝ }
 {
     let mut s = first;
     let mut turns = u64::MAX;
     while 0 < turns && s.reading.more {
-        s = answer_next(block, line, reply, out, s);
+        s = answer_next(block, line, connect, targets, sent, ledger, reply, out, s);
         turns -= 1;
     }
 }
 
 // The first line, and the others where it is good.
-fn replay(block: &mut [u8], line: &mut [u8], reply: &mut [u8], out: &mut [u8])
+fn replay(
+    block: &mut [u8],
+    line: &mut [u8],
+    connect: &mut FrameBytes,
+    targets: &mut TargetBytes,
+    sent: &mut FrameBytes,
+    ledger: &mut Ledger,
+    reply: &mut [u8],
+    out: &mut [u8],
+)
     ensures { λ _. ⌜ length (now (out .exit)) ≡ length (now (out .entry)) ⌝ }
 {
     let s = line_program::next_line(block, line, 0, 0);
     let used = s.used;
     let o = journal_text::open_journal(&line[..used], s.ended, out, 0);
     if o.good {
-        let opened = o.journal;
+        let opened = o.state;
         let first = Step {
             reading: s,
-            journal: opened,
+            state: opened,
         };
-        run(block, line, reply, out, first);
+        run(
+            block,
+            line,
+            connect,
+            targets,
+            sent,
+            ledger,
+            reply,
+            out,
+            first,
+        );
         return;
     }
     line_program::print(out, o.next);
@@ -187,5 +244,19 @@ fn main() {
     let mut line = [0u8; 32768];
     let mut reply = [0u8; 4098];
     let mut out = io::large_buffer();
-    replay(&mut block, &mut line, &mut reply, &mut out);
+    let mut connect = frames::blank();
+    let mut sent = frames::blank();
+    let none = candidates::Chosen::empty();
+    let mut targets = none.bytes;
+    let mut ledger = ledger::empty();
+    replay(
+        &mut block,
+        &mut line,
+        &mut connect,
+        &mut targets,
+        &mut sent,
+        &mut ledger,
+        &mut reply,
+        &mut out,
+    );
 }

@@ -1,6 +1,8 @@
 -- Dropping the dials of an attempt (RULES.md, section 10.4).
+-- ---- the live connections
+-- the peer to ask for: the relay of a relay dial, else the attempt's target
 use Prim.Native.Nat.{ℕ}
-use mathlib.Core.Bool.{Bool, false}
+use mathlib.Core.Bool.{Bool, true, false}
 use mathlib.Core.List.{List, [], _∷_, _++_, map}
 use lib.ListN.{length, take, replicate}
 use lib.Dec.{eqb}
@@ -13,10 +15,11 @@ use Rattle.path.specs.declared.DialPurpose.{DialPurpose}
 use Rattle.path.specs.declared.DialPurpose.the-variants.{Relay, Punch, Probe, Reserve}
 use Rattle.path.specs.declared.Dial.{Dial}
 use Rattle.rows.specs.declared.Entry.{Entry}
-use Rattle.rows.specs.declared.Entry.the-variants.{Free, Dialed, Window}
-use Rattle.rows.specs.declared.Entry.the-variants.{Path as PathEntry}
+use Rattle.rows.specs.declared.Entry.the-variants.{Other as OtherEntry, Dialed, Window, Path as PathEntry}
 use Rattle.rows.specs.declared.Row.{Row}
-use Rattle.rows.specs.Rows.{padded, tableOf}
+use Rattle.rows.specs.declared.Marks.{Marks}
+use Rattle.rows.specs.Kinds.{entryOf}
+use Rattle.rows.specs.Rows.{capacity, padded}
 use Rattle.dials.specs.declared.FirstLive.{FirstLive}
 use Rattle.dials.specs.declared.FirstLive.the-variants.{None as NoLive, At as LiveAt}
 use Rattle.dials.specs.declared.First.{First}
@@ -27,8 +30,6 @@ use Rattle.dials.specs.declared.Tokens.{Tokens}
 use Rattle.dials.specs.declared.Connections.{Connections}
 use Rattle.dials.specs.declared.Dropped.{Dropped}
 
--- ---- the live connections
--- the peer to ask for: the relay of a relay dial, else the attempt's target
 unfoldable pub askedBy : DialPurpose → PeerId → PeerId
 askedBy (Relay attempt relay) target = relay
 askedBy (Punch attempt) target = target
@@ -36,13 +37,13 @@ askedBy (Probe peer) target = target
 askedBy (Reserve peer) target = target
 
 abbrev pub askedEntry : Entry → PeerId → PeerId
-askedEntry Free target = target
+askedEntry OtherEntry target = target
 askedEntry (Dialed dial) target = askedBy (dial .purpose) target
 askedEntry (Window end) target = target
 askedEntry (PathEntry attribution) target = target
 
 unfoldable pub askedOf : PeerId → Row → PeerId
-askedOf target row = askedEntry (row .entry) target
+askedOf target row = askedEntry (entryOf row) target
 
 -- what is found for a row
 unfoldable pub firstFor : PeerId → (PeerId → FirstLive) → Row → First
@@ -53,7 +54,7 @@ noFirst = record { live = NoLive }
 
 -- nothing found for any row
 abbrev pub noFirsts : Firsts
-noFirsts = record { rows = replicate 64 noFirst }
+noFirsts = record { rows = replicate capacity noFirst }
 
 -- ---- what becomes of a dial
 unfoldable pub isFirst : FirstLive → ℕ → Bool
@@ -71,13 +72,20 @@ unfoldable pub fateOf : ConnectId → Bool → Dial → Fate
 fateOf id live dial = fateBy (dial .purpose) id live (dial .token)
 
 abbrev pub fateEntry : Entry → ConnectId → Bool → Fate
-fateEntry Free id live = Other
+fateEntry OtherEntry id live = Other
 fateEntry (Dialed dial) id live = fateOf id live dial
 fateEntry (Window end) id live = Other
 fateEntry (PathEntry attribution) id live = Other
 
 unfoldable pub fateAt : ConnectId → Row → First → Fate
-fateAt id row first = fateEntry (row .entry) id (isFirst (first .live) (row .key))
+fateAt id row first = fateEntry (entryOf row) id (isFirst (first .live) (row .key))
+
+-- its row stays
+unfoldable pub stays : Fate → Bool
+stays Other = true
+stays (Stays token) = true
+stays (Goes token) = false
+stays (Closes token) = false
 
 -- ---- what is left, retired and closed
 abbrev pub leftBy : Row → Fate → List Row
@@ -109,10 +117,10 @@ pairs (a ∷ as′) [] = []
 pairs (a ∷ as′) (b ∷ bs) = (a, b) ∷ pairs as′ bs
 
 unfoldable pub tokensOf : List NatToken → Tokens
-tokensOf ts = record { tokens = padded (record { 0 = 0 }) (take 64 ts); count = length (take 64 ts) }
+tokensOf ts = record { tokens = padded (record { 0 = 0 }) (take capacity ts); count = length (take capacity ts) }
 
 unfoldable pub connectionsOf : List ConnectionId → Connections
-connectionsOf cs = record { connections = padded (record { 0 = 0 }) (take 64 cs); count = length (take 64 cs) }
+connectionsOf cs = record { connections = padded (record { 0 = 0 }) (take capacity cs); count = length (take capacity cs) }
 
 -- of a row and what is found for it
 abbrev pub leftOf : ConnectId → Row × First → List Row
@@ -124,8 +132,13 @@ retiredOf id p = retiredBy (fateAt id (p .0) (p .1))
 abbrev pub closedOf : ConnectId → Row × First → List ConnectionId
 closedOf id p = closedBy (p .0) (fateAt id (p .0) (p .1))
 
-unfoldable pub abortWith : ConnectId → List (Row × First) → Dropped
-abortWith id ps = record { dials = tableOf (each (leftOf id) ps); retired = tokensOf (each (retiredOf id) ps); close = connectionsOf (each (closedOf id) ps) }
+-- a mark for each row: whether it stays
+unfoldable pub staying : ConnectId → List (Row × First) → Marks
+staying id ps = record { keep = padded false (map (λ (p : Row × First). stays (fateAt id (p .0) (p .1))) ps) }
 
-unfoldable pub abortOf : ConnectId → PeerId → (PeerId → FirstLive) → List Row → Dropped
-abortOf id target first rs = abortWith id (map (λ (r : Row). (r, firstFor target first r)) rs)
+unfoldable pub abortWith : ConnectId → List (Row × First) → Dropped
+abortWith id ps = record { retired = tokensOf (each (retiredOf id) ps); close = connectionsOf (each (closedOf id) ps) }
+
+-- each row with what is found for it
+abbrev pub withFirsts : PeerId → (PeerId → FirstLive) → List Row → List (Row × First)
+withFirsts target first rs = map (λ (r : Row). (r, firstFor target first r)) rs

@@ -1,8 +1,9 @@
 // Dropping the dials of a connect attempt (`abort_attempt_dials` of ledger.rs), over the table of dials.
 ghost use mathlib.Core.Path.{_≡_};
 ghost use mathlib.Core.List.{[]};
-ghost use Rattle.rows.specs.Rows.{rowsOf, tableOf};
-ghost use Rattle.dials.specs.Dials.{tokensOf, connectionsOf, noFirsts, askedBy, askedOf, isFirst, fateOf, fateAt, each, pairs, leftOf, retiredOf, closedOf, abortWith};
+ghost use Rattle.rows.specs.declared.Table.the-variants.{Dials};
+ghost use Rattle.rows.specs.Words.{rowsOf, laid};
+ghost use Rattle.dials.specs.Dials.{tokensOf, connectionsOf, noFirsts, askedBy, askedOf, isFirst, fateOf, fateAt, stays, staying, each, pairs, leftOf, retiredOf, closedOf, abortWith};
 use ids::ConnectId;
 use ids::ConnectionId;
 use ids::NatToken;
@@ -10,6 +11,9 @@ use ids::PeerId;
 use path::Dial;
 use path::DialPurpose;
 use rows::Entry;
+use rows::Ledger;
+use rows::Marks;
+use rows::ROWS;
 use rows::Row;
 use rows::Table;
 
@@ -25,22 +29,21 @@ pub struct First {
 
 // The first live connection of the peer to ask for, for each row of the table.
 pub struct Firsts {
-    pub rows: [First; 64],
+    pub rows: [First; ROWS],
 }
 
 pub struct Tokens {
-    pub tokens: [NatToken; 64],
+    pub tokens: [NatToken; ROWS],
     pub count: u64,
 }
 
 pub struct Connections {
-    pub connections: [ConnectionId; 64],
+    pub connections: [ConnectionId; ROWS],
     pub count: u64,
 }
 
-// The dials that are left, the tokens that were retired and the connections to close, in the order of the rows.
+// The tokens that were retired and the connections to close, in the order of the rows.
 pub struct Dropped {
-    pub dials: Table,
     pub retired: Tokens,
     pub close: Connections,
 }
@@ -62,7 +65,7 @@ fn no_tokens() -> Tokens
 {
     let none = NatToken(0);
     Tokens {
-        tokens: [none; 64],
+        tokens: [none; ROWS],
         count: 0,
     }
 }
@@ -72,7 +75,7 @@ fn no_connections() -> Connections
 {
     let none = ConnectionId(0);
     Connections {
-        connections: [none; 64],
+        connections: [none; ROWS],
         count: 0,
     }
 }
@@ -84,7 +87,7 @@ pub fn no_firsts() -> Firsts
     let none = First {
         live: FirstLive::None,
     };
-    Firsts { rows: [none; 64] }
+    Firsts { rows: [none; ROWS] }
 }
 
 // The peer to ask for: the relay of a relay dial, else the attempt's target.
@@ -102,13 +105,13 @@ fn asked_by(purpose: DialPurpose, target: PeerId) -> PeerId
 pub fn asked_of(row: Row, target: PeerId) -> PeerId
     ensures { λ r. ⌜ r ≡ askedOf target row ⌝ }
 {
-    let entry = row.entry;
+    let entry = rows::entry_of(row);
     match entry {
         Entry::Dialed(dial) => {
             let purpose = dial.purpose;
             asked_by(purpose, target)
         }
-        Entry::Free => target,
+        Entry::Other => target,
         Entry::Window(_) => target,
         Entry::Path(_) => target,
     }
@@ -157,60 +160,57 @@ fn fate_at(row: Row, id: ConnectId, first: First) -> Fate
     ensures { λ r. ⌜ r ≡ fateAt id row first ⌝ }
 {
     let key = row.key;
-    let entry = row.entry;
+    let entry = rows::entry_of(row);
     let live = first.live;
     let is_live = is_first(live, key);
     match entry {
         Entry::Dialed(dial) => fate_of(dial, id, is_live),
-        Entry::Free => Fate::Other,
+        Entry::Other => Fate::Other,
         Entry::Window(_) => Fate::Other,
         Entry::Path(_) => Fate::Other,
     }
 }
 
-// The rows that stay.
-fn left_of(dials: Table, id: ConnectId, firsts: Firsts) -> Table
-    ensures { λ r. ⌜ r ≡ tableOf (each (leftOf id) (pairs (rowsOf dials) (firsts .rows))) ⌝ }
+fn stays_with(fate: Fate) -> bool
+    ensures { λ r. ⌜ r ≡ stays fate ⌝ }
 {
-    let n = rows::used(dials);
-    let none = rows::empty();
-    let mut left = none.rows;
-    let mut m: usize = 0;
-    let mut i: usize = 0;
-    while i < n {
-        let row = dials.rows[i];
-        let fate = fate_at(row, id, firsts.rows[i]);
-        i += 1;
-        match fate {
-            Fate::Other => {
-                left[m] = row;
-                m += 1;
-            }
-            Fate::Stays(_) => {
-                left[m] = row;
-                m += 1;
-            }
-            Fate::Goes(_) => {}
-            Fate::Closes(_) => {}
-        }
-    }
-    Table {
-        rows: left,
-        count: m as u64,
+    match fate {
+        Fate::Other => true,
+        Fate::Stays(_) => true,
+        Fate::Goes(_) => false,
+        Fate::Closes(_) => false,
     }
 }
 
-// The tokens of the attempt's dials.
-fn retired_of(dials: Table, id: ConnectId, firsts: Firsts) -> Tokens
-    ensures { λ r. ⌜ r ≡ tokensOf (each (retiredOf id) (pairs (rowsOf dials) (firsts .rows))) ⌝ }
+// The rows that stay.
+fn staying_of(l: &Ledger, id: ConnectId, firsts: Firsts) -> Marks
+    ensures { λ r. ⌜ r ≡ staying id (pairs (rowsOf Dials (now (l .entry))) (firsts .rows)) ⌝ }
 {
-    let n = rows::used(dials);
+    let n = rows::used(l, Table::Dials);
+    let mut marks = Marks {
+        keep: [false; ROWS],
+    };
+    let mut i: usize = 0;
+    while i < n {
+        let row = rows::row_at(l, Table::Dials, i);
+        marks.keep[i] = stays_with(fate_at(row, id, firsts.rows[i]));
+        i += 1;
+    }
+    marks
+}
+
+// The tokens of the attempt's dials.
+fn retired_of(l: &Ledger, id: ConnectId, firsts: Firsts) -> Tokens
+    ensures { λ r. ⌜ r ≡ tokensOf (each (retiredOf id) (pairs (rowsOf Dials (now (l .entry))) (firsts .rows))) ⌝ }
+{
+    let n = rows::used(l, Table::Dials);
     let none = no_tokens();
     let mut tokens = none.tokens;
     let mut m: usize = 0;
     let mut i: usize = 0;
     while i < n {
-        let fate = fate_at(dials.rows[i], id, firsts.rows[i]);
+        let row = rows::row_at(l, Table::Dials, i);
+        let fate = fate_at(row, id, firsts.rows[i]);
         i += 1;
         match fate {
             Fate::Other => {}
@@ -235,16 +235,16 @@ fn retired_of(dials: Table, id: ConnectId, firsts: Firsts) -> Tokens
 }
 
 // The connections to close.
-fn closed_of(dials: Table, id: ConnectId, firsts: Firsts) -> Connections
-    ensures { λ r. ⌜ r ≡ connectionsOf (each (closedOf id) (pairs (rowsOf dials) (firsts .rows))) ⌝ }
+fn closed_of(l: &Ledger, id: ConnectId, firsts: Firsts) -> Connections
+    ensures { λ r. ⌜ r ≡ connectionsOf (each (closedOf id) (pairs (rowsOf Dials (now (l .entry))) (firsts .rows))) ⌝ }
 {
-    let n = rows::used(dials);
+    let n = rows::used(l, Table::Dials);
     let none = no_connections();
     let mut connections = none.connections;
     let mut m: usize = 0;
     let mut i: usize = 0;
     while i < n {
-        let row = dials.rows[i];
+        let row = rows::row_at(l, Table::Dials, i);
         let fate = fate_at(row, id, firsts.rows[i]);
         i += 1;
         match fate {
@@ -265,12 +265,13 @@ fn closed_of(dials: Table, id: ConnectId, firsts: Firsts) -> Connections
 }
 
 // Drops the dials of the attempt, where the first live connection is known for each row.
-pub fn abort_with(dials: Table, id: ConnectId, firsts: Firsts) -> Dropped
-    ensures { λ r. ⌜ r ≡ abortWith id (pairs (rowsOf dials) (firsts .rows)) ⌝ }
+pub fn abort_with(l: &mut Ledger, id: ConnectId, firsts: Firsts) -> Dropped
+    ensures answer { λ r. ⌜ r ≡ abortWith id (pairs (rowsOf Dials (now (l .entry))) (firsts .rows)) ⌝ }
+    ensures words { λ r. ⌜ now (l .exit) ≡ laid Dials (each (leftOf id) (pairs (rowsOf Dials (now (l .entry))) (firsts .rows))) (now (l .entry)) ⌝ }
 {
-    Dropped {
-        dials: left_of(dials, id, firsts),
-        retired: retired_of(dials, id, firsts),
-        close: closed_of(dials, id, firsts),
-    }
+    let retired = retired_of(l, id, firsts);
+    let close = closed_of(l, id, firsts);
+    let marks = staying_of(l, id, firsts);
+    rows::retain_marked(l, Table::Dials, marks);
+    Dropped { retired, close }
 }

@@ -11,29 +11,29 @@ use Rattle.path.specs.declared.FoundDial.the-variants.{At as DialAt, None as No
 use Rattle.path.specs.declared.FoundPath.{FoundPath}
 use Rattle.path.specs.declared.FoundPath.the-variants.{At as PathAt, None as NoPath}
 use Rattle.rows.specs.declared.Entry.{Entry}
-use Rattle.rows.specs.declared.Entry.the-variants.{Free, Dialed, Window}
-use Rattle.rows.specs.declared.Entry.the-variants.{Path as PathEntry}
+use Rattle.rows.specs.declared.Entry.the-variants.{Other, Dialed, Window, Path as PathEntry}
 use Rattle.rows.specs.declared.Row.{Row}
 use Rattle.rows.specs.declared.Found.{Found}
 use Rattle.rows.specs.declared.Found.the-variants.{At, Nothing}
+use Rattle.rows.specs.Kinds.{entryOf}
 use Rattle.rows.specs.Rows.{findIn}
-use Rattle.entries.specs.declared.Deadline.{Deadline}
-use Rattle.entries.specs.declared.Deadline.the-variants.{At as EndAt, None as NoEnd}
+use Rattle.vocabulary.specs.declared.Deadline.{Deadline}
+use Rattle.vocabulary.specs.declared.Deadline.the-variants.{At as EndAt, None as NoEnd}
 
 unfoldable pub dialOf : Entry → FoundDial
-dialOf Free = NoDial
+dialOf Other = NoDial
 dialOf (Dialed dial) = DialAt dial
 dialOf (Window end) = NoDial
 dialOf (PathEntry attribution) = NoDial
 
 unfoldable pub pathOf : Entry → FoundPath
-pathOf Free = NoPath
+pathOf Other = NoPath
 pathOf (Dialed dial) = NoPath
 pathOf (Window end) = NoPath
 pathOf (PathEntry attribution) = PathAt attribution
 
 unfoldable pub endOf : Entry → Deadline
-endOf Free = NoEnd
+endOf Other = NoEnd
 endOf (Dialed dial) = NoEnd
 endOf (Window end) = EndAt end
 endOf (PathEntry attribution) = NoEnd
@@ -76,4 +76,4 @@ sooner (EndAt x) (EndAt y) = EndAt (pick (ltb y x) y x)
 -- the smallest end of a window
 unfoldable pub soonest : List Row → Deadline
 soonest [] = NoEnd
-soonest (r ∷ rs) = sooner (endOf (r .entry)) (soonest rs)
+soonest (r ∷ rs) = sooner (endOf (entryOf r)) (soonest rs)

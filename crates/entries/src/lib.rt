@@ -1,6 +1,7 @@
 // What a table's row for a key says, read as a dial, a path or the end of a punch window. A row of another kind counts as none.
 ghost use mathlib.Core.Path.{_≡_};
-ghost use Rattle.rows.specs.Rows.{rowsOf};
+ghost use Rattle.rows.specs.Words.{rowsOf};
+ghost use Rattle.rows.specs.declared.Table.the-variants.{Dials, Windows, Paths};
 ghost use Rattle.entries.specs.Entries.{dialOf, pathOf, endOf, dialAt, pathAt, endAt, windowOpen, punchEnd, sooner, soonest};
 use ids::ConnectionId;
 use ids::PeerId;
@@ -8,20 +9,16 @@ use path::FoundDial;
 use path::FoundPath;
 use rows::Entry;
 use rows::Found;
+use rows::Ledger;
 use rows::Table;
-
-// When a window ends, if there is one.
-pub enum Deadline {
-    At(u64),
-    None,
-}
+use vocabulary::Deadline;
 
 fn dial_of(entry: Entry) -> FoundDial
     ensures { λ r. ⌜ r ≡ dialOf entry ⌝ }
 {
     match entry {
         Entry::Dialed(dial) => FoundDial::At(dial),
-        Entry::Free => FoundDial::None,
+        Entry::Other => FoundDial::None,
         Entry::Window(_) => FoundDial::None,
         Entry::Path(_) => FoundDial::None,
     }
@@ -32,7 +29,7 @@ fn path_of(entry: Entry) -> FoundPath
 {
     match entry {
         Entry::Path(attribution) => FoundPath::At(attribution),
-        Entry::Free => FoundPath::None,
+        Entry::Other => FoundPath::None,
         Entry::Dialed(_) => FoundPath::None,
         Entry::Window(_) => FoundPath::None,
     }
@@ -43,36 +40,36 @@ fn end_of(entry: Entry) -> Deadline
 {
     match entry {
         Entry::Window(end) => Deadline::At(end),
-        Entry::Free => Deadline::None,
+        Entry::Other => Deadline::None,
         Entry::Dialed(_) => Deadline::None,
         Entry::Path(_) => Deadline::None,
     }
 }
 
-pub fn dial_at(dials: Table, conn: ConnectionId) -> FoundDial
-    ensures { λ r. ⌜ r ≡ dialAt conn (rowsOf dials) ⌝ }
+pub fn dial_at(l: &Ledger, conn: ConnectionId) -> FoundDial
+    ensures { λ r. ⌜ r ≡ dialAt conn (rowsOf Dials (now (l .entry))) ⌝ }
 {
-    let found = rows::find(dials, conn.0);
+    let found = rows::find(l, Table::Dials, conn.0);
     match found {
         Found::At(entry) => dial_of(entry),
         Found::Nothing => FoundDial::None,
     }
 }
 
-pub fn path_at(paths: Table, conn: ConnectionId) -> FoundPath
-    ensures { λ r. ⌜ r ≡ pathAt conn (rowsOf paths) ⌝ }
+pub fn path_at(l: &Ledger, conn: ConnectionId) -> FoundPath
+    ensures { λ r. ⌜ r ≡ pathAt conn (rowsOf Paths (now (l .entry))) ⌝ }
 {
-    let found = rows::find(paths, conn.0);
+    let found = rows::find(l, Table::Paths, conn.0);
     match found {
         Found::At(entry) => path_of(entry),
         Found::Nothing => FoundPath::None,
     }
 }
 
-fn end_at(windows: Table, peer: PeerId) -> Deadline
-    ensures { λ r. ⌜ r ≡ endAt peer (rowsOf windows) ⌝ }
+fn end_at(l: &Ledger, peer: PeerId) -> Deadline
+    ensures { λ r. ⌜ r ≡ endAt peer (rowsOf Windows (now (l .entry))) ⌝ }
 {
-    let found = rows::find(windows, peer.0);
+    let found = rows::find(l, Table::Windows, peer.0);
     match found {
         Found::At(entry) => end_of(entry),
         Found::Nothing => Deadline::None,
@@ -80,10 +77,10 @@ fn end_at(windows: Table, peer: PeerId) -> Deadline
 }
 
 // A window lasts while the reading is below its end.
-pub fn window_open(windows: Table, peer: PeerId, reading: u64) -> bool
-    ensures { λ r. ⌜ r ≡ windowOpen peer reading (rowsOf windows) ⌝ }
+pub fn window_open(l: &Ledger, peer: PeerId, reading: u64) -> bool
+    ensures { λ r. ⌜ r ≡ windowOpen peer reading (rowsOf Windows (now (l .entry))) ⌝ }
 {
-    let end = end_at(windows, peer);
+    let end = end_at(l, peer);
     match end {
         Deadline::At(until) => reading < until,
         Deadline::None => false,
@@ -91,10 +88,10 @@ pub fn window_open(windows: Table, peer: PeerId, reading: u64) -> bool
 }
 
 // The later of the end of the peer's window and the end that is asked for.
-pub fn punch_end(windows: Table, peer: PeerId, until: u64) -> u64
-    ensures { λ r. ⌜ r ≡ punchEnd peer until (rowsOf windows) ⌝ }
+pub fn punch_end(l: &Ledger, peer: PeerId, until: u64) -> u64
+    ensures { λ r. ⌜ r ≡ punchEnd peer until (rowsOf Windows (now (l .entry))) ⌝ }
 {
-    let end = end_at(windows, peer);
+    let end = end_at(l, peer);
     match end {
         Deadline::At(old) => if old < until { until } else { old },
         Deadline::None => until,
@@ -114,15 +111,14 @@ fn sooner_of(a: Deadline, b: Deadline) -> Deadline
 }
 
 // The smallest end of a window.
-pub fn soonest_end(windows: Table) -> Deadline
-    ensures { λ r. ⌜ r ≡ soonest (rowsOf windows) ⌝ }
+pub fn soonest_end(l: &Ledger) -> Deadline
+    ensures { λ r. ⌜ r ≡ soonest (rowsOf Windows (now (l .entry))) ⌝ }
 {
-    let mut i = rows::used(windows);
+    let mut i = rows::used(l, Table::Windows);
     let mut end = Deadline::None;
     while 0 < i {
         i -= 1;
-        let row = windows.rows[i];
-        let entry = row.entry;
+        let entry = rows::entry_of(rows::row_at(l, Table::Windows, i));
         end = sooner_of(end_of(entry), end);
     }
     end

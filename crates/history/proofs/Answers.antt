@@ -1,44 +1,40 @@
 -- Every list of calls: what each call answers is what the book tells of it.
 -- Assumes nothing.
-use mathlib.Core.Path.{_≡_, refl, sym, ap, _∙_, subst}
+use mathlib.Core.Path.{_≡_, refl, sym, ap, subst}
 use mathlib.Core.Bool.{Bool, true, false}
 use mathlib.Core.List.{List, [], _∷_}
 use Prim.Native.Nat.{ℕ, _-_}
 use lib.Dec.{ltb}
-use lib.ListN.{length, replicate}
-use lib.Seq.{take-append-seam}
+use lib.ListN.{length}
 use Rattle.prelude.specs.Choice.{pick}
 use Rattle.ids.specs.declared.PeerId.{PeerId}
 use Rattle.ids.specs.declared.ConnectionId.{ConnectionId}
 use Rattle.refusal.specs.declared.Refusal.the-variants.{ReplyBufferTooShort}
 use Rattle.budget.specs.declared.UpgradeBudget.{UpgradeBudget}
-use Rattle.wire.specs.Lists.{entries, broken}
-use Rattle.message.specs.declared.Kind.the-variants.{Connect}
-use Rattle.message.specs.Encoding.{frameBytes}
-use Rattle.candidates.specs.Selection.{usual, own}
 use Rattle.candidates.specs.declared.Chosen.{Chosen}
-use Rattle.initiator.specs.declared.Framed.{Framed}
-use Rattle.initiator.specs.Sent.{packed}
-use Rattle.ledger.specs.declared.PathLedger.{PathLedger}
-use Rattle.inbound.specs.declared.Settings.{Settings}
-use Rattle.inbound.specs.declared.InboundCircuit.{InboundCircuit}
-use Rattle.inbound.specs.declared.Phase.{Phase}
-use Rattle.inbound.specs.declared.Own.{Own}
-use Rattle.inbound.specs.declared.Check.{Check}
-use Rattle.inbound.specs.declared.Check.the-variants.{Passed, Refused}
-use Rattle.inbound.specs.declared.Answer.{Answer}
-use Rattle.inbound.specs.Answers.{noMessage, refusedOf}
-use Rattle.inbound.specs.Circuit.{checkOf, unless, upOf, tickOf}
-use Rattle.inbound.specs.Input.{inputOf, ownOf}
-use Rattle.inbound.specs.Input as input
-use Rattle.history.specs.Calls.{Call, up, tick, wrote, down, stepOf}
-use Rattle.history.specs.Calls as call
-use Rattle.history.specs.Book.{Book, bytesOf, fresh}
+use Rattle.frames.specs.declared.Framed.{Framed}
+use Rattle.frames.specs.Sent.{ownConnect}
+use Rattle.ledger.specs.Ledger.{PathLedger}
+use Rattle.vocabulary.specs.declared.Settings.{Settings}
+use Rattle.inbound.specs.declared.circuit.InboundCircuit.{InboundCircuit}
+use Rattle.inbound.specs.declared.state.Phase.{Phase}
+use Rattle.vocabulary.specs.declared.Outcome.{Outcome}
+use Rattle.vocabulary.specs.declared.Outcome.the-variants.{Accepted, Refused}
+use Rattle.inbound.specs.declared.state.Core.{Core}
+use Rattle.inbound.specs.declared.decision.Decision.{Decision}
+use Rattle.inbound.specs.Decisions.{silence, eventOf, decidedOf, quietOf, refusedOf}
+use Rattle.inbound.specs.Refusals.{checkOf}
+use Rattle.inbound.specs.Calls.{unless, upIn, tickIn, inputIn, wroteOf, downOf}
+use Rattle.inbound.specs.Circuits.{answerOf, upAnswer, tickAnswer, inputAnswer, wroteAnswer, downAnswer}
+use Rattle.history.specs.Calls.{Call, up, input, tick, wrote, down, stepOf}
+use Rattle.history.specs.Book.{Book, fresh}
 use Rattle.history.specs.Refuses.{refusal, turned, next}
 use Rattle.history.specs.Demand3.{begun}
 use Rattle.history.specs.Tells.{Says, Told, nothing, tells, tellsAll}
-use Rattle.history.specs.Answers.{saidBy, said, saidAll, saidIs, back, backAll, leaves, leftOf, leftIs, Noted, AllNoted, toldOf, EffectsByTheRule, LedgerByTheRule, OwnList}
-use Rattle.history.proofs.Relation.{Begun, whose, circuitOf, Together, Rel, Keeps}
+use Rattle.history.specs.Answers.{said, saidAll, saidIs, back, backAll, leftOf, leftIs, Noted, AllNoted, toldOf, EffectsByTheRule, LedgerByTheRule, OwnList}
+use Rattle.history.proofs.Made.{framedIn, chosenIn, made, up-made, tick-made, input-made}
+use Rattle.history.proofs.Relation.{Begun, whose, coreOf, circuitOf, Together, Rel}
+use Rattle.history.proofs.Rounds.{own-bytes}
 use Rattle.history.proofs.Run.{begun-rel}
 use Rattle.history.proofs.Refuses.{step-turned, next-rel}
 use Rattle.history.proofs.Told.{Follows, refused-follows, tick-follows, up-follows}
@@ -50,19 +46,15 @@ pub record Answers (k : Begun) (c : InboundCircuit) (x : Call) (w : Told) (v : B
   pub ledgers : back c x ≡ leftOf (k .source) x (pick v nothing w .lot)
   pub room : Noted (k .source) x (pick v nothing w .lot)
 
-checked : (source : PeerId) (c : InboundCircuit) (l : PathLedger) (a : Answer) (w : Told) → Follows source l a w → (y : Check)
-    → Follows source l (unless c l a y) w
-checked source c l a w h Passed = h
-checked source c l a w h (Refused why) = refused-follows source l c why w
+module _ (source : PeerId) (l : PathLedger) (m : Framed) (t : Chosen) (own : List ℕ) (chosen : Chosen) (c : Core) (w : Told) where
+  checked : (d : Decision) → Follows source l (made m t own chosen d) w → (y : Outcome) → Follows source l (made m t own chosen (unless c d y)) w
+  checked d h Accepted = h
+  checked d h (Refused why) = refused-follows source l m t own chosen c why w
 
-checked-input : (source : PeerId) (c : InboundCircuit) (l : PathLedger) (buffer : List ℕ) (d : input.Done) (w : Told)
-    → Follows source l (d .answer) w → (short : Bool) (y : Check)
-    → Follows source l
-    (pick {A = input.Done} short (record { answer = refusedOf c l ReplyBufferTooShort; buffer = buffer }) (input.unless c l buffer d y) .answer)
-    w
-checked-input source c l buffer d w h true y = refused-follows source l c ReplyBufferTooShort w
-checked-input source c l buffer d w h false Passed = h
-checked-input source c l buffer d w h false (Refused why) = refused-follows source l c why w
+  checked-input : (short : Bool) (d : Decision) → Follows source l (made m t own chosen d) w → (y : Outcome)
+      → Follows source l (made m t own chosen (pick short (refusedOf c ReplyBufferTooShort) (unless c d y))) w
+  checked-input true d h y = refused-follows source l m t own chosen c ReplyBufferTooShort w
+  checked-input false d h y = checked d h y
 
 one : {x y : PathLedger} → x ≡ y → x ∷ [] ≡ y ∷ []
 one e = ap (λ (z : PathLedger). z ∷ []) e
@@ -70,19 +62,27 @@ one e = ap (λ (z : PathLedger). z ∷ []) e
 call-answers : (k : Begun) (p : Phase) (g : UpgradeBudget) (m : Framed) (t : Chosen) (b : Book)
     → Together (k .settings) g m t (b .deadline) (b .rounds) p (b .stage) → (x : Call)
     → Answers k (circuitOf k p g m t) x (tells (k .settings) (whose k) b x) (stepOf (circuitOf k p g m t) x .refused)
-unfolding stepOf tells said back leftOf Noted upOf tickOf inputOf
-call-answers k p g m t b r (up l h peer conn relayed) =
-    let f = checked (k .source) (circuitOf k p g m t) l _ _
-    (up-follows k g m t l h (b .deadline) (b .rounds) (b .past) peer conn relayed p (b .stage) r) (checkOf (circuitOf k p g m t) h) in
+unfolding stepOf tells said back leftOf Noted upIn tickIn inputIn wroteAnswer wroteOf downAnswer downOf answerOf quietOf decidedOf silence eventOf
+call-answers k p g m t b r (up l h own peer conn relayed) =
+    let f : Follows (k .source) l (upAnswer (circuitOf k p g m t) h own peer conn relayed)
+    (tells (k .settings) (whose k) b (up l h own peer conn relayed)) =
+    rw (up-made (circuitOf k p g m t) h own peer conn relayed)
+    (checked (k .source) l m t own t (coreOf k p g (m .len) (t .len)) _ _
+    (up-follows k g m t l h own t (b .deadline) (b .rounds) (b .past) peer conn relayed p (b .stage) r) (checkOf p (h .offer) own)) in
     record { effects = f .effects; ledgers = one (f .ledger); room = f .room }
-call-answers k p g m t b r (call.input l buffer h stream kind bytes pending) =
-    let f = checked-input (k .source) (circuitOf k p g m t) l buffer _ _
-    (input-follows k g m t l h (b .deadline) (b .rounds) (b .past) buffer stream kind bytes pending p (b .stage) r)
-    (ltb (length buffer) 4098) (checkOf (circuitOf k p g m t) h) in
+call-answers k p g m t b r (input l buffer h own stream kind bytes pending) =
+    let f : Follows (k .source) l (inputAnswer (circuitOf k p g m t) l h own buffer stream kind bytes pending)
+    (tells (k .settings) (whose k) b (input l buffer h own stream kind bytes pending)) =
+    rw (input-made (circuitOf k p g m t) h own l buffer stream kind bytes pending)
+    (checked-input (k .source) l m t own _ (coreOf k p g (m .len) (t .len)) _ (ltb (length buffer) 4098) _
+    (input-follows k g m t l h own (b .deadline) (b .rounds) (b .past) buffer stream kind bytes pending p (b .stage) r)
+    (checkOf p (h .offer) own)) in
     record { effects = f .effects; ledgers = one (f .ledger); room = f .room }
-call-answers k p g m t b r (tick l h) =
-    let f = checked (k .source) (circuitOf k p g m t) l _ _
-    (tick-follows k g m t l h (b .deadline) (b .rounds) (b .past) p (b .stage) r) (checkOf (circuitOf k p g m t) h) in
+call-answers k p g m t b r (tick l h own) =
+    let f : Follows (k .source) l (tickAnswer (circuitOf k p g m t) h own) (tells (k .settings) (whose k) b (tick l h own)) =
+    rw (tick-made (circuitOf k p g m t) h own)
+    (checked (k .source) l m t own t (coreOf k p g (m .len) (t .len)) _ _
+    (tick-follows k g m t l h own t (b .deadline) (b .rounds) (b .past) p (b .stage) r) (checkOf p (h .offer) own)) in
     record { effects = f .effects; ledgers = one (f .ledger); room = f .room }
 call-answers k p g m t b r (wrote at conn stream) = record { effects = refl; ledgers = refl; room = tt }
 call-answers k p g m t b r (down at peer conn) = record { effects = refl; ledgers = refl; room = tt }
@@ -91,7 +91,7 @@ pub step-answers : (k : Begun) (c : InboundCircuit) (b : Book) → Rel k c b →
     → Answers k c x (tells (k .settings) (whose k) b x) (stepOf c x .refused)
 step-answers k c b r x =
     subst (λ (d : InboundCircuit). Answers k d x (tells (k .settings) (whose k) b x) (stepOf d x .refused)) (sym (r .shape))
-    (call-answers k (c .phase) (c .budget) (c .connect) (c .targets) b (r .together) x)
+    (call-answers k (c .core .phase) (c .core .budget) (framedIn c) (chosenIn c) b (r .together) x)
 
 -- the book finds by itself whether the call is refused
 book-answers : (k : Begun) (c : InboundCircuit) (b : Book) → Rel k c b → (x : Call)
@@ -145,18 +145,5 @@ ledger-by-the-rule source relay circuit s at calls =
     k = record { source = source; relay = relay; circuit = circuit; settings = s }
 
 pub own-message : (list : List ℕ) → OwnList list
-unfolding ownOf
-own-message list = record { whether = go (broken list); message = λ e. rw e seam }
-  where
-    seam : bytesOf (packed (frameBytes Connect (own usual (entries list)))) ≡ frameBytes Connect (own usual (entries list))
-    seam =
-        take-append-seam (frameBytes Connect (own usual (entries list)))
-        (replicate (156 - length (frameBytes Connect (own usual (entries list)))) 0)
-
-    go : (v : Bool)
-        → pick {A = Own} v (record { broken = true; connect = noMessage })
-        (record { broken = false; connect = packed (frameBytes Connect (own usual (entries list))) })
-        .broken
-        ≡ v
-    go true = refl
-    go false = refl
+unfolding ownConnect
+own-message list = record { none = λ e. rw e; message = own-bytes list }

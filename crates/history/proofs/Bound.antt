@@ -18,14 +18,14 @@ use Rattle.schedule.specs.Readings.{counted}
 use Rattle.schedule.proofs.Counted.{counted-le}
 use Rattle.candidates.specs.Selection.{usual, selected}
 use Rattle.candidates.proofs.Promises.{selection-limits}
-use Rattle.inbound.specs.declared.Settings.{Settings}
-use Rattle.inbound.specs.declared.Host.{Host}
-use Rattle.inbound.specs.declared.Offer.{Offer}
-use Rattle.inbound.specs.declared.Offer.the-variants as offer
-use Rattle.inbound.specs.declared.StreamInput.{StreamInput}
-use Rattle.inbound.specs.declared.StreamInput.the-variants as i
-use Rattle.inbound.specs.declared.ConnectWrite.{ConnectWrite}
-use Rattle.inbound.specs.declared.ConnectWrite.the-variants.{Unsent, Held, Sent}
+use Rattle.vocabulary.specs.declared.Settings.{Settings}
+use Rattle.vocabulary.specs.declared.Host.{Host}
+use Rattle.vocabulary.specs.declared.Offer.{Offer}
+use Rattle.vocabulary.specs.declared.Offer.the-variants as offer
+use Rattle.vocabulary.specs.declared.StreamInput.{StreamInput}
+use Rattle.vocabulary.specs.declared.StreamInput.the-variants as i
+use Rattle.inbound.specs.declared.state.ConnectWrite.{ConnectWrite}
+use Rattle.inbound.specs.declared.state.ConnectWrite.the-variants.{Unsent, Held, Sent}
 use Rattle.inbound.specs.Brought.{Brought, unfinished, failed, connect}
 use Rattle.history.specs.Heard.{heard}
 use Rattle.history.specs.Calls.{Call, up, input, tick, wrote, down, toEach, copies, refusals}
@@ -96,10 +96,10 @@ module _ (b : Book) (most : b .rounds ≤ 3) (le : length (windows b) ≤ b .rou
   closing-fine : Fine (closed b)
   closing-fine = record { most = most; room = omega arith; short = rw (append-nil (windows b)) short }
 
-  wanting-fine : (s : Settings) (who : Who) (h : Host) → Fine (wanted s who h b)
-  wanting-fine s who h = go (isCircuit who (h .live)) (ltb (b .rounds) 3) refl (ltb (h .at) (b .deadline)) (h .offer)
+  wanting-fine : (s : Settings) (who : Who) (h : Host) (own : List ℕ) → Fine (wanted s who h own b)
+  wanting-fine s who h own = go (isCircuit who (h .live)) (ltb (b .rounds) 3) refl (ltb (h .at) (b .deadline)) (h .offer)
     where
-      go : (x y : Bool) → ltb (b .rounds) 3 ≡ y → (z : Bool) (o : Offer) → Fine (pick (both x (both y z)) (begins s h b o) (closed b))
+      go : (x y : Bool) → ltb (b .rounds) 3 ≡ y → (z : Bool) (o : Offer) → Fine (pick (both x (both y z)) (begins s h own b o) (closed b))
       go true true e true offer.Nothing = closing-fine
       go true true e true (offer.Stream conn stream) =
           record { most = omega (arith, ltb-true (b .rounds) 3 e); room = omega arith; short = rw (append-nil (windows b)) short }
@@ -110,14 +110,14 @@ module _ (b : Book) (most : b .rounds ≤ 3) (le : length (windows b) ≤ b .rou
 closed-fine : (b : Book) → Fine b → Fine (closed b)
 closed-fine b f = closing-fine b (f .most) (windows-le b f) (f .short)
 
-wanted-fine : (s : Settings) (who : Who) (h : Host) (b : Book) → Fine b → Fine (wanted s who h b)
-wanted-fine s who h b f = wanting-fine b (f .most) (windows-le b f) (f .short) s who h
+wanted-fine : (s : Settings) (who : Who) (h : Host) (own : List ℕ) (b : Book) → Fine b → Fine (wanted s who h own b)
+wanted-fine s who h own b f = wanting-fine b (f .most) (windows-le b f) (f .short) s who h own
 
 closed-if : (t : Bool) (b : Book) → Fine b → Fine (pick t (closed b) b)
 closed-if true b f = closed-fine b f
 closed-if false b f = f
 
-module _ (s : Settings) (who : Who) (h : Host) (deadline rounds : ℕ) (past : List Window) where
+module _ (s : Settings) (who : Who) (h : Host) (own : List ℕ) (deadline rounds : ℕ) (past : List Window) where
   abbrev at : Stage → Book
   at g = record { stage = g; deadline = deadline; rounds = rounds; past = past }
 
@@ -129,7 +129,7 @@ module _ (s : Settings) (who : Who) (h : Host) (deadline rounds : ℕ) (past : L
         short = short-append past (seen (h .at) w ∷ []) (short-left past (w ∷ []) (f .short)) (short-right past (w ∷ []) (f .short) .0, tt);
       }
 
-  tick-fine : (g : Stage) → Fine (at g) → Fine (tickIn s who h (at g) g)
+  tick-fine : (g : Stage) → Fine (at g) → Fine (tickIn s who h own (at g) g)
   tick-fine (handshaking end) f = go (ltb (h .at) end)
     where
       go : (t : Bool) → Fine (pick t (at (handshaking end)) (closed (at (handshaking end))))
@@ -137,27 +137,27 @@ module _ (s : Settings) (who : Who) (h : Host) (deadline rounds : ℕ) (past : L
       go false = closed-fine (at (handshaking end)) f
   tick-fine (asking x) f = go (ltb (h .at) deadline) (ltb (h .at) (x .end))
     where
-      go : (t u : Bool) → Fine (pick t (pick u (at (asking x)) (wanted s who h (at (asking x)))) (closed (at (asking x))))
+      go : (t u : Bool) → Fine (pick t (pick u (at (asking x)) (wanted s who h own (at (asking x)))) (closed (at (asking x))))
       go true true = f
-      go true false = wanted-fine s who h (at (asking x)) f
+      go true false = wanted-fine s who h own (at (asking x)) f
       go false u = closed-fine (at (asking x)) f
   tick-fine (within w) f = go (ltb (h .at) deadline) (ltb (h .at) (w .end))
     where
       go : (t u : Bool)
-          → Fine (pick t (pick u (at (within (seen (h .at) w))) (wanted s who h (at (within (seen (h .at) w))))) (closed (at (within w))))
+          → Fine (pick t (pick u (at (within (seen (h .at) w))) (wanted s who h own (at (within (seen (h .at) w))))) (closed (at (within w))))
       go true true = seen-fine w f
-      go true false = wanted-fine s who h (at (within (seen (h .at) w))) (seen-fine w f)
+      go true false = wanted-fine s who h own (at (within (seen (h .at) w))) (seen-fine w f)
       go false u = closed-fine (at (within w)) f
   tick-fine over f = f
 
-  up-fine : (relayed : Bool) (conn : ConnectionId) (g : Stage) → Fine (at g) → Fine (upIn s who h relayed conn (at g) g)
+  up-fine : (relayed : Bool) (conn : ConnectionId) (g : Stage) → Fine (at g) → Fine (upIn s who h own relayed conn (at g) g)
   up-fine true conn (handshaking end) f = go (eqb (conn .0) (who .circuit .0)) (s .upgrades)
     where
       b : Book
       b = at (handshaking end)
 
-      go : (x y : Bool) → Fine (pick x (pick y (wanted s who h (armed s h b)) (closed b)) b)
-      go true true = wanting-fine (armed s h b) (omega arith) (omega (arith, f .room, length-append past [])) (f .short) s who h
+      go : (x y : Bool) → Fine (pick x (pick y (wanted s who h own (armed s h b)) (closed b)) b)
+      go true true = wanting-fine (armed s h b) (omega arith) (omega (arith, f .room, length-append past [])) (f .short) s who h own
       go true false = closed-fine b f
       go false y = f
   up-fine false conn (handshaking end) f = closed-fine (at (handshaking end)) f
@@ -172,9 +172,9 @@ module _ (s : Settings) (who : Who) (h : Host) (deadline rounds : ℕ) (past : L
     on-fine : (y : Asking) → Fine (at (asking y))
     on-fine y = record { most = f .most; room = f .room; short = f .short }
 
-    replied-fine : (y : Brought) → Fine (replied s who h (at (asking x)) x y)
+    replied-fine : (y : Brought) → Fine (replied s who h own (at (asking x)) x y)
     replied-fine (unfinished n) = on-fine (withCount x n)
-    replied-fine failed = wanted-fine s who h (at (asking x)) f
+    replied-fine failed = wanted-fine s who h own (at (asking x)) f
     replied-fine (connect addresses) =
         record {
           most = f .most;
@@ -184,32 +184,33 @@ module _ (s : Settings) (who : Who) (h : Host) (deadline rounds : ℕ) (past : L
               (short-left past [] (f .short)) (chosen-short (s .private) addresses, tt);
         }
 
-    answered-fine : (buffer : List ℕ) (kind : StreamInput) (bytes : List ℕ) → Fine (answeredBy s who h buffer kind bytes (at (asking x)) x)
+    answered-fine : (buffer : List ℕ) (kind : StreamInput) (bytes : List ℕ) → Fine (answeredBy s who h own buffer kind bytes (at (asking x)) x)
     answered-fine buffer i.Ready bytes = f
     answered-fine buffer i.Data bytes = replied-fine (heard bytes buffer (x .count))
-    answered-fine buffer i.RemoteWriteClosed bytes = wanted-fine s who h (at (asking x)) f
-    answered-fine buffer i.Closed bytes = wanted-fine s who h (at (asking x)) f
+    answered-fine buffer i.RemoteWriteClosed bytes = wanted-fine s who h own (at (asking x)) f
+    answered-fine buffer i.Closed bytes = wanted-fine s who h own (at (asking x)) f
 
     to-fine : (buffer : List ℕ) (kind : StreamInput) (bytes : List ℕ) (pending : Bool) (c : ConnectWrite)
-        → Fine (inputTo s who h buffer kind bytes pending (at (asking x)) x c)
+        → Fine (inputTo s who h own buffer kind bytes pending (at (asking x)) x c)
     to-fine buffer kind bytes pending Unsent = go (isClosing kind)
       where
         go : (t : Bool)
-            → Fine (pick t (wanted s who h (at (asking x))) (at (asking (withConnect x (pick pending Held (Sent (h .at)))))))
-        go true = wanted-fine s who h (at (asking x)) f
+            → Fine (pick t (wanted s who h own (at (asking x))) (at (asking (withConnect x (pick pending Held (Sent (h .at)))))))
+        go true = wanted-fine s who h own (at (asking x)) f
         go false = on-fine (withConnect x (pick pending Held (Sent (h .at))))
     to-fine buffer kind bytes pending Held = answered-fine buffer kind bytes
     to-fine buffer kind bytes pending (Sent t) = answered-fine buffer kind bytes
 
   input-fine : (buffer : List ℕ) (stream : StreamId) (kind : StreamInput) (bytes : List ℕ) (pending : Bool) (g : Stage) → Fine (at g)
-      → Fine (inputIn s who h buffer stream kind bytes pending (at g) g)
+      → Fine (inputIn s who h own buffer stream kind bytes pending (at g) g)
   input-fine buffer stream kind bytes pending (handshaking end) f = f
   input-fine buffer stream kind bytes pending (asking x) f = go (eqb (x .stream .0) (stream .0)) (ltb (h .at) (x .end))
     where
       b : Book
       b = at (asking x)
 
-      go : (t u : Bool) → Fine (pick t (pick u (inputTo s who h buffer kind bytes pending b x (x .connect)) (tickIn s who h b (asking x))) b)
+      go : (t u : Bool) → Fine (pick t (pick u (inputTo s who h own buffer kind bytes pending b x (x .connect))
+          (tickIn s who h own b (asking x))) b)
       go true true = to-fine x f buffer kind bytes pending (x .connect)
       go true false = tick-fine (asking x) f
       go false u = f
@@ -230,14 +231,14 @@ wrote-fine at conn stream b over e f = f
 
 note-fine : (s : Settings) (who : Who) (b : Book) (x : Call) → Fine b → Fine (note s who b x)
 unfolding note
-note-fine s who b (up l h peer conn relayed) f = go (eqb (peer .0) (who .source .0))
+note-fine s who b (up l h own peer conn relayed) f = go (eqb (peer .0) (who .source .0))
   where
-    go : (t : Bool) → Fine (pick t (upIn s who h relayed conn b (b .stage)) b)
-    go true = up-fine s who h (b .deadline) (b .rounds) (b .past) relayed conn (b .stage) f
+    go : (t : Bool) → Fine (pick t (upIn s who h own relayed conn b (b .stage)) b)
+    go true = up-fine s who h own (b .deadline) (b .rounds) (b .past) relayed conn (b .stage) f
     go false = f
-note-fine s who b (input l buffer h stream kind bytes pending) f =
-    input-fine s who h (b .deadline) (b .rounds) (b .past) buffer stream kind bytes pending (b .stage) f
-note-fine s who b (tick l h) f = tick-fine s who h (b .deadline) (b .rounds) (b .past) (b .stage) f
+note-fine s who b (input l buffer h own stream kind bytes pending) f =
+    input-fine s who h own (b .deadline) (b .rounds) (b .past) buffer stream kind bytes pending (b .stage) f
+note-fine s who b (tick l h own) f = tick-fine s who h own (b .deadline) (b .rounds) (b .past) (b .stage) f
 note-fine s who b (wrote at conn stream) f = wrote-fine at conn stream b (b .stage) refl f
 note-fine s who b (down at peer conn) f = closed-if (eqb (conn .0) (who .circuit .0)) b f
 

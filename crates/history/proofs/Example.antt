@@ -12,17 +12,25 @@ use Rattle.message.specs.Encoding.{addressFields}
 use Rattle.wire.specs.Lists.{along, listed}
 use Rattle.message.specs.Fields.{fieldOf}
 use Rattle.message.specs.Message.{scan}
-use Rattle.initiator.specs.Gathering.{gathering}
+use Rattle.frames.specs.Gathering.{gathering}
 use Rattle.address.specs.Multiaddr.{bigEndian, hasForm, parsed}
 use Rattle.address.specs.Words.{globalUnicast4, mayBeTarget}
 use Rattle.candidates.specs.Entries.{count, only}
 use Rattle.candidates.specs.Selection.{selected, own, once, bounded, room}
-use Rattle.rows.specs.Rows.{padded, tableOf, such}
+use Rattle.rows.specs.Rows.{such}
 use Rattle.ledger.specs.Ledger.{emptyLedger, refusesPunches}
-use Rattle.inbound.specs.Answers.{noTargets, silence, eventOf, resetOf, burstOf, sendingOf, answerOf, quietOf, refusedOf}
+use Rattle.inbound.specs.Decisions.{silence, eventOf, resetOf, burstOf, sendingOf, decidedOf, quietOf, refusedOf}
 use Rattle.inbound.specs.Brought.{broughtBy}
-use Rattle.inbound.specs.Circuit.{inPhase, exchangingOf, isLive, openRound, tickPunching, inUse, checkOf, announced, closing, inExchange, writeOf, firstInput, roundTrip, punchingOf, windowOf, openWindow, begunOf, startedOf, upOf, tickOf}
-use Rattle.inbound.specs.Input.{ownOf, targetsFrom, dataInput, exchangeInput, inputOf}
+use Rattle.inbound.specs.State.{inPhase, exchangingOf, punchingOf}
+use Rattle.inbound.specs.Rounds.{isLive, openRound}
+use Rattle.inbound.specs.Ticks.{tickPunching}
+use Rattle.inbound.specs.Refusals.{inUse, checkOf}
+use Rattle.inbound.specs.Ups.{announced, connectedOf, upAt}
+use Rattle.inbound.specs.Inputs.{closing, inExchange, writeOf, firstInput, roundTrip, windowOf, openWindow, exchangeInput}
+use Rattle.inbound.specs.Replies.{targetsFrom, peekedOf}
+use Rattle.inbound.specs.Carried.{opens, framedBy, connectAfter, targetsAfter}
+use Rattle.inbound.specs.Calls.{startedOf, begunOf, upIn, upOf, tickIn, tickOf, hearing, inputIn, inputOf}
+use Rattle.inbound.specs.Circuits.{answerOf, newAnswer, upAnswer, tickAnswer, inputAnswer}
 use Rattle.schedule.specs.Readings.{counted}
 use Rattle.history.specs.Heard.{heard}
 use Rattle.history.specs.Calls.{toEach, copies, stepOf, refusals}
@@ -36,21 +44,21 @@ use Rattle.history.specs.ThreeRounds as three
 use Rattle.history.specs.Example
 
 pub example : each Example.begun calls ≡ expected
-unfolding plus armed mayBegin oneMore begun withExchange ended windowEnd upgradeDue dueAt halfOf startOf upto instants countIf countTo ahead without timesOf dueOf openedOf schedule.windowOf frameFrom valueOf spanOf varintOf along listed fieldOf scan gathering bigEndian hasForm parsed globalUnicast4 mayBeTarget count only selected bounded room padded tableOf such emptyLedger refusesPunches noTargets silence eventOf resetOf burstOf sendingOf answerOf quietOf broughtBy inPhase exchangingOf isLive openRound tickPunching inUse checkOf announced closing inExchange writeOf firstInput roundTrip punchingOf windowOf openWindow begunOf upOf tickOf ownOf targetsFrom dataInput exchangeInput inputOf toEach copies stepOf buffer calls each
+unfolding plus armed mayBegin oneMore begun withExchange ended windowEnd upgradeDue dueAt halfOf startOf upto instants countIf countTo ahead without timesOf dueOf openedOf schedule.windowOf frameFrom valueOf spanOf varintOf along listed fieldOf scan gathering bigEndian hasForm parsed globalUnicast4 mayBeTarget count only selected bounded room such emptyLedger refusesPunches silence eventOf resetOf burstOf sendingOf decidedOf quietOf broughtBy inPhase exchangingOf isLive openRound tickPunching inUse checkOf announced connectedOf upAt closing inExchange writeOf firstInput roundTrip punchingOf windowOf openWindow exchangeInput targetsFrom peekedOf opens framedBy connectAfter targetsAfter startedOf begunOf upIn upOf tickIn tickOf hearing inputIn inputOf answerOf newAnswer upAnswer tickAnswer inputAnswer toEach copies stepOf buffer calls each
 example = refl
 
 pub three-rounds : each three.begun three.calls ≡ three.expected
-unfolding plus armed mayBegin oneMore begun withExchange ended windowEnd upgradeDue dueAt halfOf startOf upto instants countIf countTo ahead without timesOf dueOf openedOf schedule.windowOf frameFrom valueOf spanOf varintOf along listed fieldOf scan gathering bigEndian hasForm parsed globalUnicast4 mayBeTarget count only selected bounded room padded tableOf such emptyLedger refusesPunches noTargets silence eventOf resetOf burstOf sendingOf answerOf quietOf broughtBy inPhase exchangingOf isLive openRound tickPunching inUse checkOf announced closing inExchange writeOf firstInput roundTrip punchingOf windowOf openWindow begunOf upOf tickOf ownOf targetsFrom dataInput exchangeInput inputOf toEach copies stepOf buffer refusedOf three.calls each
+unfolding plus armed mayBegin oneMore begun withExchange ended windowEnd upgradeDue dueAt halfOf startOf upto instants countIf countTo ahead without timesOf dueOf openedOf schedule.windowOf frameFrom valueOf spanOf varintOf along listed fieldOf scan gathering bigEndian hasForm parsed globalUnicast4 mayBeTarget count only selected bounded room such emptyLedger refusesPunches silence eventOf resetOf burstOf sendingOf decidedOf quietOf broughtBy inPhase exchangingOf isLive openRound tickPunching inUse checkOf announced connectedOf upAt closing inExchange writeOf firstInput roundTrip punchingOf windowOf openWindow exchangeInput targetsFrom peekedOf opens framedBy connectAfter targetsAfter startedOf begunOf upIn upOf tickIn tickOf hearing inputIn inputOf answerOf newAnswer upAnswer tickAnswer inputAnswer toEach copies stepOf buffer refusedOf three.calls each
 three-rounds = refl
 
 pub three-windows : due three.settings (windowsOf source relay circuit three.settings 0 three.calls) ≡ three.all
-unfolding plus armed mayBegin oneMore begun withExchange ended windowEnd upgradeDue dueAt halfOf startOf upto instants countIf countTo ahead without timesOf dueOf openedOf schedule.windowOf frameFrom valueOf spanOf varintOf along listed fieldOf scan gathering bigEndian hasForm parsed globalUnicast4 mayBeTarget count only selected bounded room padded tableOf such emptyLedger refusesPunches noTargets silence eventOf resetOf burstOf sendingOf answerOf quietOf broughtBy inPhase exchangingOf isLive openRound tickPunching inUse checkOf announced closing inExchange writeOf firstInput roundTrip punchingOf windowOf openWindow begunOf upOf tickOf ownOf targetsFrom dataInput exchangeInput inputOf toEach copies stepOf buffer refusedOf startedOf refusals note notes heard counted due windowsOf three.calls
+unfolding plus armed mayBegin oneMore begun withExchange ended windowEnd upgradeDue dueAt halfOf startOf upto instants countIf countTo ahead without timesOf dueOf openedOf schedule.windowOf frameFrom valueOf spanOf varintOf along listed fieldOf scan gathering bigEndian hasForm parsed globalUnicast4 mayBeTarget count only selected bounded room such emptyLedger refusesPunches silence eventOf resetOf burstOf sendingOf decidedOf quietOf broughtBy inPhase exchangingOf isLive openRound tickPunching inUse checkOf announced connectedOf upAt closing inExchange writeOf firstInput roundTrip punchingOf windowOf openWindow exchangeInput targetsFrom peekedOf opens framedBy connectAfter targetsAfter startedOf begunOf upIn upOf tickIn tickOf hearing inputIn inputOf answerOf newAnswer upAnswer tickAnswer inputAnswer toEach copies stepOf buffer refusedOf refusals note notes heard counted due windowsOf three.calls
 three-windows = refl
 
 pub example-said : saidIs Example.told ≡ sayings
-unfolding plus halfOf startOf upto instants countIf frameFrom valueOf spanOf varintOf along listed fieldOf scan gathering bigEndian hasForm parsed globalUnicast4 mayBeTarget count only selected bounded room padded tableOf such emptyLedger refusesPunches heard ownOf counted groups addressFields own once buffer calls note tells tellsAll refuses lendsBroken lendsFull saidIs
+unfolding plus halfOf startOf upto instants countIf frameFrom valueOf spanOf varintOf along listed fieldOf scan gathering bigEndian hasForm parsed globalUnicast4 mayBeTarget count only selected bounded room such emptyLedger refusesPunches heard counted groups addressFields own once buffer calls note tells tellsAll refuses lendsBroken lendsFull saidIs
 example-said = refl
 
 pub example-lots : lotsOf Example.told ≡ lots
-unfolding plus halfOf startOf upto instants countIf frameFrom valueOf spanOf varintOf along listed fieldOf scan gathering bigEndian hasForm parsed globalUnicast4 mayBeTarget count only selected bounded room padded tableOf such emptyLedger refusesPunches heard ownOf counted groups addressFields own once buffer calls note tells tellsAll refuses lendsBroken lendsFull lotsOf
+unfolding plus halfOf startOf upto instants countIf frameFrom valueOf spanOf varintOf along listed fieldOf scan gathering bigEndian hasForm parsed globalUnicast4 mayBeTarget count only selected bounded room such emptyLedger refusesPunches heard counted groups addressFields own once buffer calls note tells tellsAll refuses lendsBroken lendsFull lotsOf
 example-lots = refl

@@ -1,9 +1,9 @@
 -- Done is never left, and no answer has more than three effects.
 -- Assumes nothing.
-use mathlib.Core.Path.{_≡_, refl, sym, ap, _∙_, subst}
+use mathlib.Core.Path.{_≡_, refl, sym, subst}
 use mathlib.Core.Bool.{Bool, true, false}
-use mathlib.Core.List.{List, [], _∷_, _++_}
-use Prim.Native.Nat.{ℕ, _+_, _≤_}
+use mathlib.Core.List.{List, [], _∷_}
+use Prim.Native.Nat.{ℕ, _≤_}
 use native.Mathlib.Omega.{arith}
 use lib.Dec.{ltb, eqb}
 use lib.ListN.{length, length-append}
@@ -11,35 +11,45 @@ use Rattle.prelude.specs.Choice.{pick, both, either, no}
 use Rattle.ids.specs.declared.PeerId.{PeerId}
 use Rattle.ids.specs.declared.ConnectionId.{ConnectionId}
 use Rattle.ids.specs.declared.StreamId.{StreamId}
+use Rattle.refusal.specs.declared.Refusal.{Refusal}
 use Rattle.refusal.specs.declared.Refusal.the-variants.{ReplyBufferTooShort}
+use Rattle.candidates.specs.declared.Chosen.{Chosen}
 use Rattle.candidates.specs.Selection.{usual, selected}
-use Rattle.ledger.specs.declared.PathLedger.{PathLedger}
-use Rattle.inbound.specs.declared.Settings.{Settings}
-use Rattle.inbound.specs.declared.InboundCircuit.{InboundCircuit}
-use Rattle.inbound.specs.declared.Phase.{Phase}
-use Rattle.inbound.specs.declared.Phase.the-variants.{Done}
-use Rattle.inbound.specs.declared.Host.{Host}
-use Rattle.inbound.specs.declared.Offer.{Offer}
-use Rattle.inbound.specs.declared.Offer.the-variants as offer
-use Rattle.inbound.specs.declared.StreamInput.{StreamInput}
-use Rattle.inbound.specs.declared.StreamInput.the-variants as i
-use Rattle.inbound.specs.declared.ConnectWrite.{ConnectWrite}
-use Rattle.inbound.specs.declared.ConnectWrite.the-variants.{Unsent, Held, Sent}
-use Rattle.inbound.specs.declared.Check.{Check}
-use Rattle.inbound.specs.declared.Check.the-variants.{Passed, Refused}
-use Rattle.inbound.specs.declared.Answer.{Answer}
-use Rattle.inbound.specs.Answers.{silence, eventOf, answerOf, quietOf, refusedOf}
+use Rattle.ledger.specs.Ledger.{PathLedger, refusesPunches}
+use Rattle.vocabulary.specs.declared.Settings.{Settings}
+use Rattle.inbound.specs.declared.circuit.InboundCircuit.{InboundCircuit}
+use Rattle.inbound.specs.declared.state.Phase.{Phase}
+use Rattle.inbound.specs.declared.state.Phase.the-variants.{Done}
+use Rattle.vocabulary.specs.declared.Host.{Host}
+use Rattle.vocabulary.specs.declared.Offer.{Offer}
+use Rattle.vocabulary.specs.declared.Offer.the-variants as offer
+use Rattle.vocabulary.specs.declared.StreamInput.{StreamInput}
+use Rattle.vocabulary.specs.declared.StreamInput.the-variants as i
+use Rattle.inbound.specs.declared.state.ConnectWrite.{ConnectWrite}
+use Rattle.inbound.specs.declared.state.ConnectWrite.the-variants.{Unsent, Held, Sent}
+use Rattle.vocabulary.specs.declared.Outcome.{Outcome}
+use Rattle.vocabulary.specs.declared.Outcome.the-variants.{Accepted, Refused}
+use Rattle.inbound.specs.declared.decision.Decision.{Decision}
+use Rattle.inbound.specs.declared.circuit.Answer.{Answer}
+use Rattle.inbound.specs.Decisions.{silence, eventOf, decidedOf, quietOf, refusedOf}
+use Rattle.inbound.specs.Carried.{targetsAfter}
+use Rattle.inbound.specs.Carried as carried
+use Rattle.inbound.specs.Circuits.{answerOf, plainly, upAnswer, tickAnswer, inputAnswer, wroteAnswer, downAnswer}
 use Rattle.inbound.specs.Brought.{Brought, unfinished, failed, connect}
-use Rattle.inbound.specs.Circuit.{checkOf, establishedAt, tickAt, wroteAt, unless, upOf, tickOf, wroteOf, downOf, doneOf, isDone}
-use Rattle.inbound.specs.Input.{inputOf}
-use Rattle.inbound.specs.Input as input
+use Rattle.inbound.specs.Refusals.{checkOf}
+use Rattle.inbound.specs.Ups.{establishedAt, connectedOf, tookOf, taking, upAt}
+use Rattle.inbound.specs.Inputs.{inputAt}
+use Rattle.inbound.specs.Ticks.{tickAt}
+use Rattle.inbound.specs.Calls.{unless, upIn, tickIn, peeked, hearing, inputIn, wroteAt, wroteOf, downOf}
+use Rattle.inbound.specs.State.{doneOf, isDone}
 use Rattle.history.specs.Heard.{heard}
-use Rattle.history.specs.Calls.{Call, up, tick, wrote, down, stepOf, answered}
+use Rattle.history.specs.Calls.{Call, up, tick, wrote, down, stepOf}
 use Rattle.history.specs.Calls as call
-use Rattle.history.specs.Book.{Window, Asking, Stage, handshaking, asking, within, over, Book, Who, isCircuit, armed, isClosing, tripOf, fresh}
-use Rattle.history.specs.Tells.{Says, burst, send, reset, opens, removed, sync, Told, only, nothing, opening, wants, isNone, blast, newly, tickTells, upTells, repliedTells, laterTells, timelyTells, inputTells, tells, tellsAll}
-use Rattle.history.specs.Answers.{said, saidBy, saidAll, saidIs, toldOf, whoOf, DoneIsLast, AtMostThree, ThreeEffects}
+use Rattle.history.specs.Book.{Asking, Stage, handshaking, asking, within, over, Book, Who, isCircuit, armed, isClosing, tripOf, fresh}
+use Rattle.history.specs.Tells.{Says, burst, send, reset, opens, removed, sync, Told, nothing, opening, wants, isNone, blast, newly, tickTells, upTells, repliedTells, laterTells, timelyTells, inputTells, tells, tellsAll}
+use Rattle.history.specs.Answers.{said, saidBy, saidIs, toldOf, whoOf, DoneIsLast, AtMostThree, ThreeEffects}
 use Rattle.history.specs.Refuses.{refusal, turned, next}
+use Rattle.history.proofs.Made.{framedIn, chosenIn, made, up-made, tick-made, input-made}
 use Rattle.history.proofs.Answers.{effects-by-the-rule}
 
 -- ---- Done
@@ -47,73 +57,102 @@ use Rattle.history.proofs.Answers.{effects-by-the-rule}
 abbrev Idle : InboundCircuit → Answer → Type 0
 Idle c a = (a .circuit ≡ c) × (saidBy a ≡ [])
 
-quiet-idle : (c : InboundCircuit) (l : PathLedger) → Idle c (quietOf c l)
-unfolding quietOf answerOf silence eventOf
-quiet-idle c l = (refl, refl)
+module _ (c : InboundCircuit) (own : List ℕ) (chosen : Chosen) where
+  abbrev answer : Decision → Answer
+  answer d = made (framedIn c) (chosenIn c) own chosen d
 
-checked : (c : InboundCircuit) (l : PathLedger) (a : Answer) → Idle c a → (y : Check) → Idle c (unless c l a y)
-unfolding refusedOf
-checked c l a h Passed = h
-checked c l a h (Refused why) = (refl, refl)
+  quiet-idle : Idle c (answer (quietOf (c .core)))
+  unfolding quietOf decidedOf silence eventOf carried.opens targetsAfter
+  quiet-idle = (refl, refl)
 
-checked-input : (c : InboundCircuit) (l : PathLedger) (buffer : List ℕ) (short : Bool) (y : Check)
-    → Idle c
-    (pick {A = input.Done} short (record { answer = refusedOf c l ReplyBufferTooShort; buffer = buffer })
-    (input.unless c l buffer (record { answer = quietOf c l; buffer = buffer }) y)
-    .answer)
-unfolding refusedOf
-checked-input c l buffer true y = (refl, refl)
-checked-input c l buffer false Passed = quiet-idle c l
-checked-input c l buffer false (Refused why) = (refl, refl)
+  refused-idle : (why : Refusal) → Idle c (answer (refusedOf (c .core) why))
+  unfolding refusedOf carried.opens targetsAfter
+  refused-idle why = (refl, refl)
 
-module _ (c : InboundCircuit) (promoted : Bool) (e : c .phase ≡ Done promoted) where
-  at-last : (P : Phase → Type 0) → P (Done promoted) → P (c .phase)
+  checked : (d : Decision) → Idle c (answer d) → (y : Outcome) → Idle c (answer (unless (c .core) d y))
+  checked d h Accepted = h
+  checked d h (Refused why) = refused-idle why
+
+  checked-input : (short : Bool) (d : Decision) → Idle c (answer d)
+      → Idle c (answer (pick short (refusedOf (c .core) ReplyBufferTooShort) d))
+  checked-input true d h = refused-idle ReplyBufferTooShort
+  checked-input false d h = h
+
+plain-idle : (c : InboundCircuit) → Idle c (plainly c (quietOf (c .core)))
+unfolding answerOf quietOf decidedOf silence eventOf
+plain-idle c = (refl, refl)
+
+module _ (c : InboundCircuit) (promoted : Bool) (e : c .core .phase ≡ Done promoted) where
+  at-last : (P : Phase → Type 0) → P (Done promoted) → P (c .core .phase)
   at-last P h = subst P (sym e) h
 
-  up-idle : (l : PathLedger) (h : Host) (peer : PeerId) (conn : ConnectionId) (relayed : Bool) → Idle c (upOf c l h peer conn relayed)
-  unfolding upOf
-  up-idle l h peer conn relayed =
-      at-last (λ p. Idle c (unless c l (pick (eqb (peer .0) (c .source .0)) (establishedAt c l h conn relayed p) (quietOf c l)) (checkOf c h)))
-      (checked c l (pick (eqb (peer .0) (c .source .0)) (quietOf c l) (quietOf c l)) (go (eqb (peer .0) (c .source .0))) (checkOf c h))
-    where
-      go : (v : Bool) → Idle c (pick v (quietOf c l) (quietOf c l))
-      go true = quiet-idle c l
-      go false = quiet-idle c l
-
-  input-idle : (l : PathLedger) (buffer : List ℕ) (h : Host) (stream : StreamId) (kind : StreamInput) (bytes : List ℕ) (pending : Bool)
-      → Idle c (inputOf c l h buffer stream kind bytes pending .answer)
-  unfolding inputOf
-  input-idle l buffer h stream kind bytes pending =
-      at-last
+  up-idle : (h : Host) (own : List ℕ) (peer : PeerId) (conn : ConnectionId) (relayed : Bool) → Idle c (upAnswer c h own peer conn relayed)
+  unfolding upIn upAt connectedOf
+  up-idle h own peer conn relayed =
+      rw (up-made c h own peer conn relayed)
+      (checked c own (chosenIn c) _
+      (at-last
       (λ p. Idle c
-      (pick {A = input.Done} (ltb (length buffer) 4098) (record { answer = refusedOf c l ReplyBufferTooShort; buffer = buffer })
-      (input.unless c l buffer (input.inputAt c l h buffer stream kind bytes pending p) (checkOf c h))
-      .answer))
-      (checked-input c l buffer (ltb (length buffer) 4098) (checkOf c h))
-
-  tick-idle : (l : PathLedger) (h : Host) → Idle c (tickOf c l h)
-  unfolding tickOf
-  tick-idle l h = at-last (λ p. Idle c (unless c l (tickAt c l h p) (checkOf c h))) (checked c l (quietOf c l) (quiet-idle c l) (checkOf c h))
-
-  wrote-idle : (at : ℕ) (conn : ConnectionId) (stream : StreamId) → wroteOf c at conn stream ≡ c
-  unfolding wroteOf
-  wrote-idle at conn stream = at-last (λ p. wroteAt c at conn stream p ≡ c) refl
-
-  down-idle : (conn : ConnectionId) → downOf c conn ≡ c
-  unfolding downOf
-  down-idle conn = at-last (λ p. pick (both (eqb (conn .0) (c .circuit .0)) (no (isDone p))) (doneOf c) c ≡ c) (go (eqb (conn .0) (c .circuit .0)))
+      (answer c own (chosenIn c)
+      (taking took (pick (eqb (peer .0) (c .core .source .0)) (establishedAt (c .core) h conn relayed p) (quietOf (c .core))))))
+      (go (eqb (peer .0) (c .core .source .0))))
+      (checkOf (c .core .phase) (h .offer) own))
     where
-      go : (v : Bool) → pick (both v false) (doneOf c) c ≡ c
-      go true = refl
-      go false = refl
+      took : Bool
+      took = tookOf (c .core) peer conn relayed
+
+      go : (v : Bool) → Idle c (answer c own (chosenIn c) (taking took (pick v (quietOf (c .core)) (quietOf (c .core)))))
+      go true = quiet-idle c own (chosenIn c)
+      go false = quiet-idle c own (chosenIn c)
+
+  input-idle : (l : PathLedger) (buffer : List ℕ) (h : Host) (own : List ℕ) (stream : StreamId) (kind : StreamInput) (bytes : List ℕ)
+      (pending : Bool)
+      → Idle c (inputAnswer c l h own buffer stream kind bytes pending)
+  unfolding inputIn hearing
+  input-idle l buffer h own stream kind bytes pending =
+      rw (input-made c h own l buffer stream kind bytes pending)
+      (checked-input c own chosen (ltb (length buffer) 4098) _
+      (checked c own chosen _
+      (at-last
+      (λ p. Idle c
+      (answer c own chosen
+      (inputAt (c .core) h stream kind pending (peeked (c .core) buffer bytes .heard) (chosen .len) (refusesPunches l (c .core .source)) p)))
+      (quiet-idle c own chosen))
+      (checkOf (c .core .phase) (h .offer) own)))
+    where
+      chosen : Chosen
+      chosen = peeked (c .core) buffer bytes .targets
+
+  tick-idle : (h : Host) (own : List ℕ) → Idle c (tickAnswer c h own)
+  unfolding tickIn
+  tick-idle h own =
+      rw (tick-made c h own)
+      (checked c own (chosenIn c) _
+      (at-last (λ p. Idle c (answer c own (chosenIn c) (tickAt (c .core) h p))) (quiet-idle c own (chosenIn c)))
+      (checkOf (c .core .phase) (h .offer) own))
+
+  wrote-idle : (at : ℕ) (conn : ConnectionId) (stream : StreamId) → Idle c (wroteAnswer c at conn stream)
+  unfolding wroteAnswer wroteOf
+  wrote-idle at conn stream = at-last (λ p. Idle c (plainly c (quietOf (wroteAt (c .core) at conn stream p)))) (plain-idle c)
+
+  down-idle : (conn : ConnectionId) → Idle c (downAnswer c conn)
+  unfolding downAnswer downOf
+  down-idle conn =
+      at-last
+      (λ p. Idle c (plainly c (quietOf (pick (both (eqb (conn .0) (c .core .circuit .0)) (no (isDone p))) (doneOf (c .core)) (c .core)))))
+      (go (eqb (conn .0) (c .core .circuit .0)))
+    where
+      go : (v : Bool) → Idle c (plainly c (quietOf (pick (both v false) (doneOf (c .core)) (c .core))))
+      go true = plain-idle c
+      go false = plain-idle c
 
 pub done-is-last : DoneIsLast
 unfolding stepOf said
-done-is-last c promoted e (up l h peer conn relayed) = up-idle c promoted e l h peer conn relayed
-done-is-last c promoted e (call.input l buffer h stream kind bytes pending) = input-idle c promoted e l buffer h stream kind bytes pending
-done-is-last c promoted e (tick l h) = tick-idle c promoted e l h
-done-is-last c promoted e (wrote at conn stream) = (wrote-idle c promoted e at conn stream, refl)
-done-is-last c promoted e (down at peer conn) = (down-idle c promoted e conn, refl)
+done-is-last c promoted e (up l h own peer conn relayed) = up-idle c promoted e h own peer conn relayed
+done-is-last c promoted e (call.input l buffer h own stream kind bytes pending) = input-idle c promoted e l buffer h own stream kind bytes pending
+done-is-last c promoted e (tick l h own) = tick-idle c promoted e h own
+done-is-last c promoted e (wrote at conn stream) = wrote-idle c promoted e at conn stream
+done-is-last c promoted e (down at peer conn) = down-idle c promoted e conn
 
 -- ---- three effects
 
@@ -191,9 +230,10 @@ module _ (s : Settings) (who : Who) (h : Host) (b : Book) where
 
 tells-few : (s : Settings) (who : Who) (b : Book) (k : Call) → Few 3 (tells s who b k)
 unfolding tells
-tells-few s who b (up l h peer conn relayed) = pick-few 3 (eqb (peer .0) (who .source .0)) _ _ (up-few s who h b relayed conn (b .stage)) (omega arith)
-tells-few s who b (call.input l buffer h stream kind bytes pending) = input-few s who h b buffer stream kind bytes (b .stage)
-tells-few s who b (tick l h) = tick-few s who h b (b .stage)
+tells-few s who b (up l h own peer conn relayed) = pick-few 3 (eqb (peer .0) (who .source .0)) _ _
+    (up-few s who h b relayed conn (b .stage)) (omega arith)
+tells-few s who b (call.input l buffer h own stream kind bytes pending) = input-few s who h b buffer stream kind bytes (b .stage)
+tells-few s who b (tick l h own) = tick-few s who h b (b .stage)
 tells-few s who b (wrote at conn stream) = omega arith
 tells-few s who b (down at peer conn) = omega arith
 

@@ -1,3 +1,4 @@
+pub mod Made
 pub mod Datagrams
 pub mod Heard
 pub mod Relation
@@ -16,6 +17,7 @@ pub mod ToldInput
 pub mod Answers
 pub mod Buffers
 pub mod Extras
+pub mod Took
 pub mod Sound
 pub mod Promotes
 pub mod Questions

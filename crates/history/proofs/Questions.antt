@@ -3,11 +3,10 @@
 use mathlib.Core.Path.{_≡_, refl, sym, ap, _∙_, subst}
 use mathlib.Core.Bool.{Bool, true, false}
 use mathlib.Core.List.{List, [], _∷_}
-use Prim.Native.Nat.{ℕ, _+_, _≤_, min}
+use Prim.Native.Nat.{ℕ, _+_, min}
 use native.Mathlib.Omega.{arith}
-use lib.Dec.{ltb, leb, eqb}
+use lib.Dec.{ltb, eqb}
 use Rattle.prelude.specs.Choice.{pick, both, either, no}
-use borrow.Author.Tests.{leb-true, leb-false}
 use Rattle.time.specs.Time.{last}
 use Rattle.ids.specs.declared.PeerId.{PeerId}
 use Rattle.ids.specs.declared.ConnectionId.{ConnectionId}
@@ -15,25 +14,26 @@ use Rattle.budget.specs.declared.UpgradeBudget.{UpgradeBudget}
 use Rattle.budget.specs.Budget.{nextDeadline}
 use Rattle.schedule.specs.declared.BlastSchedule.{BlastSchedule}
 use Rattle.schedule.specs.declared.BlastSchedule.the-variants.{Next, Over}
-use Rattle.schedule.specs.Instants.{instants}
 use Rattle.schedule.specs.Schedule.{ahead, nextOf}
 use Rattle.schedule.proofs.Instants.{instants-some}
 use Rattle.candidates.specs.declared.Chosen.{Chosen}
-use Rattle.initiator.specs.declared.Framed.{Framed}
-use Rattle.inbound.specs.declared.Settings.{Settings}
-use Rattle.inbound.specs.declared.InboundCircuit.{InboundCircuit}
-use Rattle.inbound.specs.declared.Phase.{Phase}
-use Rattle.inbound.specs.declared.Deadline.{Deadline}
-use Rattle.inbound.specs.declared.Deadline.the-variants.{At, None}
-use Rattle.inbound.specs.Circuit.{isDone, nextDeadlineAt, claimOf, promoted, promotesOf}
+use Rattle.frames.specs.declared.Framed.{Framed}
+use Rattle.vocabulary.specs.declared.Settings.{Settings}
+use Rattle.inbound.specs.declared.circuit.InboundCircuit.{InboundCircuit}
+use Rattle.inbound.specs.declared.state.Core.{Core}
+use Rattle.inbound.specs.declared.state.Phase.{Phase}
+use Rattle.vocabulary.specs.declared.Deadline.the-variants.{At}
+use Rattle.inbound.specs.State.{isDone}
+use Rattle.inbound.specs.Questions.{nextDeadlineAt, claimOf, promoted, promotesOf}
 use Rattle.history.specs.Calls.{Call, stepOf}
 use Rattle.history.specs.Book.{Window, Stage, Book, fresh}
 use Rattle.history.specs.Demand3.{begun}
 use Rattle.history.specs.Refuses.{next, nextAll}
 use Rattle.history.specs.Tells.{isNone}
 use Rattle.history.specs.Answers.{whoOf}
-use Rattle.history.specs.Questions.{waiting, sooner, again, isOver, claims, ranOut, promotes, afterAll, QuestionsByTheRule}
-use Rattle.history.proofs.Relation.{Begun, whose, circuitOf, Sound, InExchange, InWindow, Together, in-handshake, in-exchange, in-window, at-end, Rel}
+use Rattle.history.specs.Questions.{waiting, sooner, again, isOver, claims, ranOut, afterAll, QuestionsByTheRule}
+use Rattle.history.proofs.Made.{framedIn, chosenIn}
+use Rattle.history.proofs.Relation.{Begun, whose, coreOf, Sound, InWindow, Together, in-handshake, in-exchange, in-window, at-end, Rel}
 use Rattle.history.proofs.Refuses.{ends-first, next-rel}
 use Rattle.history.proofs.Promotes.{all-promoted, begun-promoted}
 use Rattle.history.proofs.Run.{begun-rel}
@@ -55,7 +55,7 @@ idle-next s g t deadline rounds closes q w x = rw (x .idle) (x .limits .deadline
 
 module _ (k : Begun) (g : UpgradeBudget) (m : Framed) (t : Chosen) (b : Book) where
   again-same : (p : Phase) (stage : Stage) → Together (k .settings) g m t (b .deadline) (b .rounds) p stage
-      → nextDeadlineAt (circuitOf k p g m t) p ≡ again (k .settings) b stage
+      → nextDeadlineAt (coreOf k p g (m .len) (t .len)) p ≡ again (k .settings) b stage
   again-same p stage (in-handshake end) = refl
   again-same p stage (in-exchange conn stream end count connect x) =
       ap At (ends-first (k .settings) g (b .deadline) (b .rounds) end x ∙ omega (arith, x .ends))
@@ -77,23 +77,23 @@ module _ (k : Begun) (g : UpgradeBudget) (m : Framed) (t : Chosen) (b : Book) wh
   done-over p stage (in-window closes q w x) = refl
   done-over p stage (at-end promoted) = refl
 
-rel-again : (k : Begun) (c : InboundCircuit) (b : Book) → Rel k c b → nextDeadlineAt c (c .phase) ≡ again (k .settings) b (b .stage)
+rel-again : (k : Begun) (c : InboundCircuit) (b : Book) → Rel k c b → nextDeadlineAt (c .core) (c .core .phase) ≡ again (k .settings) b (b .stage)
 rel-again k c b r =
-    subst (λ (d : InboundCircuit). nextDeadlineAt d (d .phase) ≡ again (k .settings) b (b .stage)) (sym (r .shape))
-    (again-same k (c .budget) (c .connect) (c .targets) b (c .phase) (b .stage) (r .together))
+    subst (λ (d : InboundCircuit). nextDeadlineAt (d .core) (d .core .phase) ≡ again (k .settings) b (b .stage)) (sym (r .shape))
+    (again-same k (c .core .budget) (framedIn c) (chosenIn c) b (c .core .phase) (b .stage) (r .together))
 
-rel-claims : (k : Begun) (c : InboundCircuit) (b : Book) → Rel k c b → (conn : ConnectionId) → claimOf c conn ≡ claims (whose k) b conn
+rel-claims : (k : Begun) (c : InboundCircuit) (b : Book) → Rel k c b → (conn : ConnectionId) → claimOf (c .core) conn ≡ claims (whose k) b conn
 unfolding claimOf
 rel-claims k c b r conn =
-    subst (λ (d : InboundCircuit). claimOf d conn ≡ claims (whose k) b conn) (sym (r .shape))
-    (rw (done-over k (c .budget) (c .connect) (c .targets) b (c .phase) (b .stage) (r .together)))
+    subst (λ (d : InboundCircuit). claimOf (d .core) conn ≡ claims (whose k) b conn) (sym (r .shape))
+    (rw (done-over k (c .core .budget) (framedIn c) (chosenIn c) b (c .core .phase) (b .stage) (r .together)))
 
 rel-all : (k : Begun) (xs : List Call) (c : InboundCircuit) (b : Book) → Rel k c b → Rel k (afterAll c xs) (nextAll (k .settings) (whose k) b xs)
 unfolding afterAll nextAll
 rel-all k [] c b r = r
 rel-all k (x ∷ xs) c b r = rel-all k xs (stepOf c x .circuit) (next (k .settings) (whose k) b x) (next-rel k c b r x)
 
-promotes-in : (c : InboundCircuit) (circuit : ConnectionId) (v : Bool) → c .circuit ≡ circuit → promoted (c .phase) ≡ v → (conn : ConnectionId)
+promotes-in : (c : Core) (circuit : ConnectionId) (v : Bool) → c .circuit ≡ circuit → promoted (c .phase) ≡ v → (conn : ConnectionId)
     → promotesOf c conn ≡ both (eqb (conn .0) (circuit .0)) v
 unfolding promotesOf
 promotes-in c circuit v f e conn = ap (λ (x : ConnectionId). both (eqb (conn .0) (x .0)) (promoted (c .phase))) f ∙ ap (both (eqb (conn .0) (circuit .0))) e
@@ -102,7 +102,7 @@ pub questions-by-the-rule : (source relay : PeerId) (circuit : ConnectionId) (s 
     → QuestionsByTheRule source relay circuit s at calls
 questions-by-the-rule source relay circuit s at calls =
     let r = rel-all k calls (begun source relay circuit s at) (fresh s at) (begun-rel source relay circuit s at) in
-    record { deadline = rel-again k _ _ r; claim = rel-claims k _ _ r; promote = λ conn. promotes-in (afterAll (begun source relay circuit s at) calls) circuit (no (either (ltb last (at + s .handshake)) over)) (ap (λ (c : InboundCircuit). c .circuit) (r .shape)) phases conn }
+    record { deadline = rel-again k _ _ r; claim = rel-claims k _ _ r; promote = λ conn. promotes-in (afterAll (begun source relay circuit s at) calls .core) circuit (no (either (ltb last (at + s .handshake)) over)) (ap (λ (c : InboundCircuit). c .core .circuit) (r .shape)) phases conn }
   where
     k : Begun
     k = record { source = source; relay = relay; circuit = circuit; settings = s }
@@ -116,7 +116,7 @@ questions-by-the-rule source relay circuit s at calls =
     over : Bool
     over = ranOut s (whoOf source relay circuit) (fresh s at) calls
 
-    phases : promoted (afterAll (begun source relay circuit s at) calls .phase) ≡ no (either (ltb last (at + s .handshake)) over)
+    phases : promoted (afterAll (begun source relay circuit s at) calls .core .phase) ≡ no (either (ltb last (at + s .handshake)) over)
     phases =
         all-promoted k calls (begun source relay circuit s at) (fresh s at) (begun-rel source relay circuit s at)
         ∙ ap (pick over false) (begun-promoted source relay circuit s at)

@@ -2,13 +2,12 @@
 -- Assumes nothing.
 use mathlib.Core.Path.{_≡_, refl, sym, ap, _∙_, subst}
 use mathlib.Core.Bool.{Bool, true, false}
-use mathlib.Core.List.{List, [], _∷_, _++_}
-use Prim.Native.Nat.{ℕ, _+_, _≤_, min}
+use mathlib.Core.List.{List, [], _∷_}
+use Prim.Native.Nat.{ℕ, _+_}
 use native.Mathlib.Omega.{arith}
-use lib.Dec.{ltb, eqb}
+use lib.Dec.{ltb}
 use borrow.Author.Tests.{lt-ltb, le-ltb}
-use lib.ListN.{length}
-use Rattle.prelude.specs.Choice.{pick, both}
+use Rattle.prelude.specs.Choice.{pick}
 use Rattle.time.specs.Time.{last}
 use Rattle.ids.specs.declared.PeerId.{PeerId}
 use Rattle.ids.specs.declared.ConnectionId.{ConnectionId}
@@ -19,27 +18,29 @@ use Rattle.refusal.specs.Number.{numberOf}
 use Rattle.budget.specs.declared.UpgradeBudget.{UpgradeBudget}
 use Rattle.budget.specs.Budget.{nextDeadline}
 use Rattle.candidates.specs.declared.Chosen.{Chosen}
-use Rattle.initiator.specs.declared.Framed.{Framed}
+use Rattle.frames.specs.declared.Framed.{Framed}
 use Rattle.ledger.specs.Ledger.{refusesPunches}
-use Rattle.inbound.specs.declared.Settings.{Settings}
-use Rattle.inbound.specs.declared.InboundCircuit.{InboundCircuit}
-use Rattle.inbound.specs.declared.Phase.{Phase}
-use Rattle.inbound.specs.declared.Host.{Host}
-use Rattle.inbound.specs.declared.Offer.{Offer}
-use Rattle.inbound.specs.declared.StreamInput.{StreamInput}
-use Rattle.inbound.specs.declared.Outcome.{Outcome}
-use Rattle.inbound.specs.declared.Outcome.the-variants.{Accepted, Refused}
-use Rattle.inbound.specs.declared.Phase.the-variants.{Done}
-use Rattle.inbound.specs.declared.Started.{Started}
-use Rattle.inbound.specs.Circuit.{upOf, tickOf, begunOf, newOf, startedOf}
-use Rattle.inbound.specs.Input.{inputOf}
-use Rattle.history.specs.Calls.{Call, up, input, tick, wrote, down, isRefused, stepOf, refusals}
+use Rattle.vocabulary.specs.declared.Settings.{Settings}
+use Rattle.inbound.specs.declared.circuit.InboundCircuit.{InboundCircuit}
+use Rattle.inbound.specs.declared.state.Phase.{Phase}
+use Rattle.vocabulary.specs.declared.Host.{Host}
+use Rattle.vocabulary.specs.declared.Offer.{Offer}
+use Rattle.vocabulary.specs.declared.StreamInput.{StreamInput}
+use Rattle.vocabulary.specs.declared.Outcome.{Outcome}
+use Rattle.vocabulary.specs.declared.Outcome.the-variants.{Accepted, Refused}
+use Rattle.inbound.specs.declared.state.Phase.the-variants.{Handshaking, Done}
+use Rattle.inbound.specs.declared.decision.Decision.{Decision}
+use Rattle.inbound.specs.Decisions.{decidedOf, quietOf, refusedOf}
+use Rattle.inbound.specs.Calls.{begunOf, startedOf}
+use Rattle.inbound.specs.Circuits.{answerOf, newAnswer}
+use Rattle.history.specs.Calls.{Call, up, input, tick, wrote, down, answerTo, isRefused, stepOf, refusals}
 use Rattle.history.specs.Numbers.{offersPair, opensWindow, refusedWith, numberIn, answeredWith}
 use Rattle.history.specs.Book.{Stage, Book, fresh, note}
 use Rattle.history.specs.Demand3.{begun}
-use Rattle.history.specs.Refuses.{offered, completes, refuses, lendsBroken, lendsFull, refusal, turned, next, nextAll, numbers, turnedAll}
+use Rattle.history.specs.Refuses.{offered, completes, refuses, lendsBroken, lendsFull, refusal, turned, next, numbers, turnedAll}
 use Rattle.history.specs.Answers.{answers, RefusalsByTheRule, StartByTheRule}
 use Rattle.history.proofs.Heard.{heard-same}
+use Rattle.history.proofs.Made.{framedIn, chosenIn}
 use Rattle.history.proofs.Relation.{Begun, whose, circuitOf, InExchange, Together, in-handshake, in-exchange, in-window, at-end, Rel}
 use Rattle.history.proofs.Run.{step-keeps, begun-rel}
 use Rattle.history.proofs.TurnedBack.{refused-by-the-rule}
@@ -66,13 +67,13 @@ module _ (k : Begun) (g : UpgradeBudget) (m : Framed) (t : Chosen) (deadline rou
 call-refuses : (k : Begun) (p : Phase) (g : UpgradeBudget) (m : Framed) (t : Chosen) (b : Book)
     → Together (k .settings) g m t (b .deadline) (b .rounds) p (b .stage) → (x : Call) → refusedWith (circuitOf k p g m t) x ≡ refusal (whose k) b x
 unfolding refusedWith refuses lendsBroken lendsFull refusesPunches
-call-refuses k p g m t b r (up l h peer conn relayed) = rw (offered-same k g m t (b .deadline) (b .rounds) p (b .stage) r (h .offer))
-call-refuses k p g m t b r (input l buffer h stream kind bytes pending) =
+call-refuses k p g m t b r (up l h own peer conn relayed) = rw (offered-same k g m t (b .deadline) (b .rounds) p (b .stage) r (h .offer))
+call-refuses k p g m t b r (input l buffer h own stream kind bytes pending) =
     rw (
       offered-same k g m t (b .deadline) (b .rounds) p (b .stage) r (h .offer),
       completes-same k g m t (b .deadline) (b .rounds) h buffer stream kind bytes p (b .stage) r,
     )
-call-refuses k p g m t b r (tick l h) = rw (offered-same k g m t (b .deadline) (b .rounds) p (b .stage) r (h .offer))
+call-refuses k p g m t b r (tick l h own) = rw (offered-same k g m t (b .deadline) (b .rounds) p (b .stage) r (h .offer))
 call-refuses k p g m t b r (wrote at conn stream) = refl
 call-refuses k p g m t b r (down at peer conn) = refl
 
@@ -80,7 +81,7 @@ pub step-refuses : (k : Begun) (c : InboundCircuit) (b : Book) → Rel k c b →
 step-refuses k c b r x =
     refused-by-the-rule c x
     ∙ subst (λ (d : InboundCircuit). refusedWith d x ≡ refusal (whose k) b x) (sym (r .shape))
-    (call-refuses k (c .phase) (c .budget) (c .connect) (c .targets) b (r .together) x)
+    (call-refuses k (c .core .phase) (c .core .budget) (framedIn c) (chosenIn c) b (r .together) x)
 
 -- no refusal has the number 0
 pub some-number : (w : Refusal) → turned (numberOf w) ≡ true
@@ -103,11 +104,7 @@ refused-number (Refused w) = sym (some-number w)
 
 call-turned : (c : InboundCircuit) (x : Call) → stepOf c x .refused ≡ turned (answeredWith c x)
 unfolding stepOf answeredWith
-call-turned c (up l h peer conn relayed) = refused-number (upOf c l h peer conn relayed .outcome)
-call-turned c (input l buffer h stream kind bytes pending) = refused-number (inputOf c l h buffer stream kind bytes pending .answer .outcome)
-call-turned c (tick l h) = refused-number (tickOf c l h .outcome)
-call-turned c (wrote at conn stream) = refl
-call-turned c (down at peer conn) = refl
+call-turned c x = refused-number (answerTo c x .outcome)
 
 pub step-turned : (k : Begun) (c : InboundCircuit) (b : Book) → Rel k c b → (x : Call) → stepOf c x .refused ≡ turned (refusal (whose k) b x)
 step-turned k c b r x = call-turned c x ∙ ap turned (step-refuses k c b r x)
@@ -146,18 +143,18 @@ refusals-by-the-rule source relay circuit s at calls =
     k = record { source = source; relay = relay; circuit = circuit; settings = s }
 
 pub start-by-the-rule : (source relay : PeerId) (circuit : ConnectionId) (s : Settings) (at : ℕ) → StartByTheRule source relay circuit s at
-unfolding startedOf begunOf
+unfolding newAnswer answerOf startedOf begunOf refusedOf quietOf decidedOf
 start-by-the-rule source relay circuit s at =
     record {
       number = numbered (ltb last (at + s .handshake));
-      late = λ h. ap (λ (v : Bool). started v .circuit .phase) (lt-ltb last (at + s .handshake) h);
-      timely = λ h. ap (λ (v : Bool). started v .circuit .phase) (le-ltb last (at + s .handshake) h);
+      late = λ h. ap (λ (v : Bool). started v .core .phase) (lt-ltb last (at + s .handshake) h);
+      timely = λ h. ap (λ (v : Bool). started v .core .phase) (le-ltb last (at + s .handshake) h);
     }
   where
-    started : Bool → Started
+    started : Bool → Decision
     started v =
-        pick v (record { circuit = begunOf source relay circuit s (Done false); outcome = Refused why.HandshakeTooLate })
-        (record { circuit = newOf source relay circuit s at; outcome = Accepted })
+        pick v (refusedOf (begunOf source relay circuit s (Done false)) why.HandshakeTooLate)
+        (quietOf (begunOf source relay circuit s (Handshaking (at + s .handshake))))
 
     numbered : (v : Bool) → numberIn (started v .outcome) ≡ pick v 3 0
     numbered true = refl

@@ -10,72 +10,83 @@ use Rattle.prelude.specs.Choice.{pick}
 use Rattle.time.specs.Time.{last}
 use Rattle.ids.specs.declared.PeerId.{PeerId}
 use Rattle.ids.specs.declared.ConnectionId.{ConnectionId}
-use Rattle.refusal.specs.declared.Refusal.the-variants.{ReplyBufferTooShort, HandshakeTooLate}
+use Rattle.wire.specs.Lists.{broken}
+use Rattle.refusal.specs.declared.Refusal.the-variants.{ReplyBufferTooShort, HandshakeTooLate, BrokenList, OfferInUse}
 use Rattle.budget.specs.declared.UpgradeBudget.{UpgradeBudget}
 use Rattle.candidates.specs.declared.Chosen.{Chosen}
-use Rattle.initiator.specs.declared.Framed.{Framed}
-use Rattle.ledger.specs.declared.PathLedger.{PathLedger}
-use Rattle.inbound.specs.declared.Settings.{Settings}
-use Rattle.inbound.specs.declared.InboundCircuit.{InboundCircuit}
-use Rattle.inbound.specs.declared.Phase.{Phase}
-use Rattle.inbound.specs.declared.Phase.the-variants.{Done}
-use Rattle.inbound.specs.declared.Started.{Started}
-use Rattle.inbound.specs.declared.Outcome.the-variants as outcome
-use Rattle.inbound.specs.declared.Check.{Check}
-use Rattle.inbound.specs.declared.Check.the-variants.{Passed, Refused}
-use Rattle.inbound.specs.declared.Answer.{Answer}
-use Rattle.inbound.specs.Answers.{refusedOf}
-use Rattle.inbound.specs.Circuit.{checkOf, unless, begunOf, newOf, startedOf, upOf, tickOf, wroteOf}
-use Rattle.inbound.specs.Input.{inputOf}
-use Rattle.inbound.specs.Input as input
-use Rattle.history.specs.Calls.{Call, up, tick, wrote, down, answered, stepOf, datagrams, refusals}
-use Rattle.history.specs.Calls as call
+use Rattle.candidates.specs.Selection as selection
+use Rattle.frames.specs.declared.Framed.{Framed}
+use Rattle.frames.specs.Sent as frame
+use Rattle.ledger.specs.Ledger.{refusesPunches}
+use Rattle.vocabulary.specs.declared.Settings.{Settings}
+use Rattle.inbound.specs.declared.circuit.InboundCircuit.{InboundCircuit}
+use Rattle.inbound.specs.declared.state.Phase.{Phase}
+use Rattle.inbound.specs.declared.state.Phase.the-variants.{Handshaking, Done}
+use Rattle.inbound.specs.declared.state.Core.{Core}
+use Rattle.inbound.specs.declared.decision.Decision.{Decision}
+use Rattle.vocabulary.specs.declared.Offer.{Offer}
+use Rattle.vocabulary.specs.declared.Outcome.the-variants.{Accepted, Refused}
+use Rattle.inbound.specs.Decisions.{decidedOf, quietOf, refusedOf}
+use Rattle.inbound.specs.Refusals.{inUse, checkOf}
+use Rattle.inbound.specs.Calls.{unless, begunOf, startedOf, upIn, tickIn, inputIn, wroteOf, downOf}
+use Rattle.inbound.specs.Circuits.{answerOf, newAnswer, wroteAnswer, downAnswer}
+use Rattle.history.specs.Calls.{Call, up, input, tick, wrote, down, answered, stepOf, datagrams, refusals}
 use Rattle.history.specs.Book.{Window, handshaking, over, Book, fresh, current, windows, note, notes}
 use Rattle.history.specs.Demand3.{due, begun, windowsOf}
-use Rattle.history.proofs.Relation.{Begun, whose, circuitOf, Together, in-handshake, at-end, Rel, Keeps, refused-keeps}
+use Rattle.history.proofs.Made.{framedIn, chosenIn, made, up-made, tick-made, input-made}
+use Rattle.history.proofs.Relation.{Begun, whose, coreOf, beside, circuitOf, Together, in-handshake, at-end, Rel, Keeps, refused-keeps}
 use Rattle.history.proofs.Tick.{tick-keeps}
 use Rattle.history.proofs.Up.{up-keeps, wrote-keeps, down-keeps}
 use Rattle.history.proofs.Input.{input-keeps}
 
--- a call that may be refused
-checked : (k : Begun) (b b′ : Book) (c : InboundCircuit) (l : PathLedger) (a : Answer) → Rel k c b → Keeps k b (answered a) b′ → (y : Check)
-    → Keeps k b (answered (unless c l a y)) b′
-checked k b b′ c l a r h Passed = h
-checked k b b′ c l a r h (Refused why) = refused-keeps k b b′ c l why r
+-- an answer that is made of a decision on a core
+module _ (k : Begun) (m : Framed) (t : Chosen) (own : List ℕ) (chosen : Chosen) (b b′ : Book) (c : Core) (r : Rel k (beside c m t) b) where
+  -- a call that may be refused; where it is not, its own list is not broken
+  checked : (p : Phase) (o : Offer) (d : Decision) → (broken own ≡ false → Keeps k b (answered (made m t own chosen d)) b′)
+      → Keeps k b (answered (made m t own chosen (unless c d (checkOf p o own)))) b′
+  unfolding checkOf
+  checked p o d h = go (broken own) refl (inUse p o)
+    where
+      go : (v : Bool) → broken own ≡ v → (u : Bool)
+          → Keeps k b (answered (made m t own chosen (unless c d (pick v (Refused BrokenList) (pick u (Refused OfferInUse) Accepted))))) b′
+      go true e u = refused-keeps k m t own chosen b b′ c BrokenList r
+      go false e true = refused-keeps k m t own chosen b b′ c OfferInUse r
+      go false e false = h e
 
-checked-input : (k : Begun) (b b′ : Book) (c : InboundCircuit) (l : PathLedger) (buffer : List ℕ) (d : input.Done) → Rel k c b
-    → Keeps k b (answered (d .answer)) b′ → (short : Bool) (y : Check)
-    → Keeps k b
-    (answered
-    (pick {A = input.Done} short (record { answer = refusedOf c l ReplyBufferTooShort; buffer = buffer }) (input.unless c l buffer d y) .answer))
-    b′
-checked-input k b b′ c l buffer d r h true y = refused-keeps k b b′ c l ReplyBufferTooShort r
-checked-input k b b′ c l buffer d r h false Passed = h
-checked-input k b b′ c l buffer d r h false (Refused why) = refused-keeps k b b′ c l why r
+  checked-input : (short : Bool) (p : Phase) (o : Offer) (d : Decision) → (broken own ≡ false → Keeps k b (answered (made m t own chosen d)) b′)
+      → Keeps k b (answered (made m t own chosen (pick short (refusedOf c ReplyBufferTooShort) (unless c d (checkOf p o own))))) b′
+  checked-input true p o d h = refused-keeps k m t own chosen b b′ c ReplyBufferTooShort r
+  checked-input false p o d h = checked p o d h
 
 -- one call
 call-keeps : (k : Begun) (p : Phase) (g : UpgradeBudget) (m : Framed) (t : Chosen) (b : Book)
     → Together (k .settings) g m t (b .deadline) (b .rounds) p (b .stage) → (x : Call)
     → Keeps k b (stepOf (circuitOf k p g m t) x) (note (k .settings) (whose k) b x)
-unfolding stepOf note upOf tickOf wroteOf inputOf
-call-keeps k p g m t b r (up l h peer conn relayed) =
-    checked k b (note (k .settings) (whose k) b (up l h peer conn relayed)) (circuitOf k p g m t) l _ (record { shape = refl; together = r })
-    (up-keeps k g m t (b .deadline) (b .rounds) (b .past) l h peer conn relayed p (b .stage) r) (checkOf (circuitOf k p g m t) h)
-call-keeps k p g m t b r (call.input l buffer h stream kind bytes pending) =
-    checked-input k b (note (k .settings) (whose k) b (call.input l buffer h stream kind bytes pending)) (circuitOf k p g m t) l buffer _
-    (record { shape = refl; together = r })
-    (input-keeps k g m t l h (b .deadline) (b .rounds) (b .past) buffer stream kind bytes pending p (b .stage) r)
-    (ltb (length buffer) 4098) (checkOf (circuitOf k p g m t) h)
-call-keeps k p g m t b r (tick l h) =
-    checked k b (note (k .settings) (whose k) b (tick l h)) (circuitOf k p g m t) l _ (record { shape = refl; together = r })
-    (tick-keeps k g m t l h (b .deadline) (b .rounds) (b .past) p (b .stage) r) (checkOf (circuitOf k p g m t) h)
+unfolding stepOf note upIn tickIn inputIn wroteAnswer wroteOf downAnswer downOf
+call-keeps k p g m t b r (up l h own peer conn relayed) =
+    rw (up-made (circuitOf k p g m t) h own peer conn relayed)
+    (checked k m t own t b (note (k .settings) (whose k) b (up l h own peer conn relayed)) (coreOf k p g (m .len) (t .len))
+    (record { shape = refl; together = r }) p (h .offer) _
+    (λ ok. up-keeps k g m t (b .deadline) (b .rounds) (b .past) h own ok t peer conn relayed p (b .stage) r))
+call-keeps k p g m t b r (input l buffer h own stream kind bytes pending) =
+    rw (input-made (circuitOf k p g m t) h own l buffer stream kind bytes pending)
+    (checked-input k m t own _ b (note (k .settings) (whose k) b (input l buffer h own stream kind bytes pending))
+    (coreOf k p g (m .len) (t .len))
+    (record { shape = refl; together = r }) (ltb (length buffer) 4098) p (h .offer) _
+    (λ ok. input-keeps k g m t h own ok (refusesPunches l (k .source)) (b .deadline) (b .rounds)
+    (b .past) buffer stream kind bytes pending p (b .stage) r))
+call-keeps k p g m t b r (tick l h own) =
+    rw (tick-made (circuitOf k p g m t) h own)
+    (checked k m t own t b (note (k .settings) (whose k) b (tick l h own)) (coreOf k p g (m .len) (t .len))
+    (record { shape = refl; together = r }) p (h .offer) _
+    (λ ok. tick-keeps k g m t h own ok t (b .deadline) (b .rounds) (b .past) p (b .stage) r))
 call-keeps k p g m t b r (wrote at conn stream) = wrote-keeps k g m t (b .deadline) (b .rounds) (b .past) at conn stream p (b .stage) r
 call-keeps k p g m t b r (down at peer conn) = down-keeps k g m t (b .deadline) (b .rounds) (b .past) conn p (b .stage) r
 
 pub step-keeps : (k : Begun) (c : InboundCircuit) (b : Book) → Rel k c b → (x : Call) → Keeps k b (stepOf c x) (note (k .settings) (whose k) b x)
 step-keeps k c b r x =
     subst (λ (d : InboundCircuit). Keeps k b (stepOf d x) (note (k .settings) (whose k) b x)) (sym (r .shape))
-    (call-keeps k (c .phase) (c .budget) (c .connect) (c .targets) b (r .together) x)
+    (call-keeps k (c .core .phase) (c .core .budget) (framedIn c) (chosenIn c) b (r .together) x)
 
 -- all calls
 run-same : (k : Begun) (xs : List Call) (c : InboundCircuit) (b : Book) → Rel k c b
@@ -99,14 +110,20 @@ no-window s at = go (ltb last (at + s .handshake))
 -- a circuit and its book begin together
 pub begun-rel : (source relay : PeerId) (circuit : ConnectionId) (s : Settings) (at : ℕ)
     → Rel (record { source = source; relay = relay; circuit = circuit; settings = s }) (begun source relay circuit s at) (fresh s at)
-unfolding begunOf startedOf
+unfolding newAnswer answerOf startedOf begunOf refusedOf quietOf decidedOf
 begun-rel source relay circuit s at = go (ltb last (at + s .handshake))
   where
-    go : (t : Bool)
-        → Rel (record { source = source; relay = relay; circuit = circuit; settings = s })
-        (pick {A = Started} t (record { circuit = begunOf source relay circuit s (Done false); outcome = outcome.Refused HandshakeTooLate })
-        (record { circuit = newOf source relay circuit s at; outcome = outcome.Accepted }) .circuit)
-        (record { stage = pick t over (handshaking (at + s .handshake)); deadline = 0; rounds = 0; past = [] })
+    k : Begun
+    k = record { source = source; relay = relay; circuit = circuit; settings = s }
+
+    started : Bool → Decision
+    started v =
+        pick v (refusedOf (begunOf source relay circuit s (Done false)) HandshakeTooLate)
+        (quietOf (begunOf source relay circuit s (Handshaking (at + s .handshake))))
+
+    go : (v : Bool)
+        → Rel k (beside (started v .core) (frame.packed []) (selection.packed []))
+        (record { stage = pick v over (handshaking (at + s .handshake)); deadline = 0; rounds = 0; past = [] })
     go true = record { shape = refl; together = at-end false }
     go false = record { shape = refl; together = in-handshake (at + s .handshake) }
 

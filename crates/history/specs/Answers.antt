@@ -1,11 +1,11 @@
 -- What one circuit answers over any list of its calls, whatever its settings, is what the book tells (RULES.md, section 11.10): its effects,
--- the ledgers and reply buffers that it hands back, and its refusals.
+-- the ledgers and reply buffers that it hands back, its refusals, and the connections that it takes.
 use mathlib.Core.Path.{_≡_}
 use Prim.Native.Nat.{ℕ, _+_, _≤_, _<_}
-use mathlib.Core.Bool.{Bool, false}
+use mathlib.Core.Bool.{Bool, true, false}
 use mathlib.Core.List.{List, [], _∷_, _++_}
 use lib.Dec.{ltb}
-use lib.ListN.{length}
+use lib.ListN.{length, take}
 use Rattle.ids.specs.declared.PeerId.{PeerId}
 use Rattle.ids.specs.declared.ConnectionId.{ConnectionId}
 use Rattle.prelude.specs.Choice.{pick}
@@ -14,52 +14,49 @@ use Rattle.wire.specs.Lists.{entries, broken}
 use Rattle.message.specs.declared.Kind.the-variants.{Connect}
 use Rattle.message.specs.Encoding.{frameBytes}
 use Rattle.candidates.specs.Selection.{usual, own}
-use Rattle.candidates.specs.declared.Chosen.{Chosen}
-use Rattle.initiator.specs.declared.Framed.{Framed}
-use Rattle.ledger.specs.declared.PathLedger.{PathLedger}
-use Rattle.ledger.specs.Ledger.{refusesPunches, endPunches, expectPunches}
-use Rattle.inbound.specs.declared.Settings.{Settings}
-use Rattle.inbound.specs.declared.InboundCircuit.{InboundCircuit}
-use Rattle.inbound.specs.declared.Effect.{Effect}
-use Rattle.inbound.specs.declared.Effect.the-variants.{Nothing, Path, Burst, Upgrade, Close, Send, Reset, Open}
-use Rattle.inbound.specs.declared.Answer.{Answer}
-use Rattle.inbound.specs.declared.Phase.the-variants.{Handshaking, Done}
-use Rattle.inbound.specs.Circuit.{startedOf, upOf, tickOf}
-use Rattle.inbound.specs.Input.{inputOf, ownOf}
-use Rattle.history.specs.Calls.{Call, up, input, tick, wrote, down, targetsOf, stepOf, refusals}
+use Rattle.frames.specs.declared.Framed.{Framed}
+use Rattle.ledger.specs.Ledger.{PathLedger, refusesPunches, endPunches, expectPunches}
+use Rattle.vocabulary.specs.declared.Settings.{Settings}
+use Rattle.inbound.specs.declared.circuit.InboundCircuit.{InboundCircuit}
+use Rattle.vocabulary.specs.declared.Effect.{Effect}
+use Rattle.vocabulary.specs.declared.Effect.the-variants.{Nothing, Path, Burst, Upgrade, Close, Send, Reset, Open}
+use Rattle.inbound.specs.declared.circuit.Answer.{Answer}
+use Rattle.inbound.specs.declared.state.Phase.the-variants.{Handshaking, Done}
+use Rattle.frames.specs.Sent.{ownConnect}
+use Rattle.inbound.specs.Circuits.{newAnswer, inputBuffer, ledgerBehind}
+use Rattle.history.specs.Calls.{Call, up, input, tick, wrote, down, answerTo, targetsOf, stepOf, refusals}
 use Rattle.history.specs.Numbers.{numberIn, answeredWith}
-use Rattle.history.specs.Book.{Book, Who, bytesOf, fresh}
+use Rattle.history.specs.Book.{Book, Who, fresh}
 use Rattle.history.specs.Refuses.{refusal, turned, next, numbers, turnedAll}
 use Rattle.history.specs.Demand3.{begun}
-use Rattle.history.specs.Tells.{Says, path, burst, upgrade, close, send, reset, opens, Lot, stays, removed, until, Told, gathers, tellsAll}
+use Rattle.history.specs.Tells.{Says, path, burst, upgrade, close, send, reset, opens, Lot, stays, removed, until, Told, gathers, tellsAll, takesAll}
 
 -- ---- effects
 
+-- the bytes of a message in use
+abbrev pub bytesOf : Framed → List ℕ
+bytesOf m = take (m .len) (m .bytes)
+
 -- an effect of an answer, with the message that is sent and the targets of the burst
-abbrev pub saidIn : Framed → Chosen → Effect → List Says
-saidIn m t Nothing = []
-saidIn m t (Path peer relay conn) = path peer relay conn ∷ []
-saidIn m t (Burst times payload) = burst times payload (targetsOf t) ∷ []
-saidIn m t (Upgrade peer old new) = upgrade peer old new ∷ []
-saidIn m t (Close conn) = close conn ∷ []
-saidIn m t (Send conn stream) = send conn stream (bytesOf m) ∷ []
-saidIn m t (Reset conn stream) = reset conn stream ∷ []
-saidIn m t (Open conn stream) = opens conn stream ∷ []
+abbrev pub saidIn : Framed → (targets : List (List ℕ)) → Effect → List Says
+saidIn m targets Nothing = []
+saidIn m targets (Path peer relay conn) = path peer relay conn ∷ []
+saidIn m targets (Burst times payload) = burst times payload targets ∷ []
+saidIn m targets (Upgrade peer old new) = upgrade peer old new ∷ []
+saidIn m targets (Close conn) = close conn ∷ []
+saidIn m targets (Send conn stream) = send conn stream (bytesOf m) ∷ []
+saidIn m targets (Reset conn stream) = reset conn stream ∷ []
+saidIn m targets (Open conn stream) = opens conn stream ∷ []
 
 -- the four places, in order
 abbrev pub saidBy : Answer → List Says
 saidBy a =
-    saidIn (a .message) (a .targets) (a .first)
-    ++ (saidIn (a .message) (a .targets) (a .second)
-    ++ (saidIn (a .message) (a .targets) (a .third) ++ saidIn (a .message) (a .targets) (a .fourth)))
+    saidIn (a .message) (targetsOf (a .circuit)) (a .first)
+    ++ (saidIn (a .message) (targetsOf (a .circuit)) (a .second)
+    ++ (saidIn (a .message) (targetsOf (a .circuit)) (a .third) ++ saidIn (a .message) (targetsOf (a .circuit)) (a .fourth)))
 
--- a wrote and a down have no answer
 unfoldable pub said : InboundCircuit → Call → List Says
-said c (up l h peer conn relayed) = saidBy (upOf c l h peer conn relayed)
-said c (input l buffer h stream kind bytes pending) = saidBy (inputOf c l h buffer stream kind bytes pending .answer)
-said c (tick l h) = saidBy (tickOf c l h)
-said c (wrote at conn stream) = []
-said c (down at peer conn) = []
+said c k = saidBy (answerTo c k)
 
 unfoldable pub saidAll : InboundCircuit → List Call → List (List Says)
 saidAll c [] = []
@@ -73,9 +70,9 @@ saidIs (t ∷ ts) = t .said ∷ saidIs ts
 
 -- the ledger that a call hands back; none is lent to a wrote and a down
 unfoldable pub back : InboundCircuit → Call → List PathLedger
-back c (up l h peer conn relayed) = upOf c l h peer conn relayed .ledger ∷ []
-back c (input l buffer h stream kind bytes pending) = inputOf c l h buffer stream kind bytes pending .answer .ledger ∷ []
-back c (tick l h) = tickOf c l h .ledger ∷ []
+back c (up l h own peer conn relayed) = ledgerBehind c l (answerTo c (up l h own peer conn relayed)) ∷ []
+back c (input l buffer h own stream kind bytes pending) = ledgerBehind c l (answerTo c (input l buffer h own stream kind bytes pending)) ∷ []
+back c (tick l h own) = ledgerBehind c l (answerTo c (tick l h own)) ∷ []
 back c (wrote at conn stream) = []
 back c (down at peer conn) = []
 
@@ -90,9 +87,9 @@ leaves source l removed = endPunches l source
 leaves source l (until end) = expectPunches l source end .ledger
 
 unfoldable pub leftOf : PeerId → Call → Lot → List PathLedger
-leftOf source (up l h peer conn relayed) t = leaves source l t ∷ []
-leftOf source (input l buffer h stream kind bytes pending) t = leaves source l t ∷ []
-leftOf source (tick l h) t = leaves source l t ∷ []
+leftOf source (up l h own peer conn relayed) t = leaves source l t ∷ []
+leftOf source (input l buffer h own stream kind bytes pending) t = leaves source l t ∷ []
+leftOf source (tick l h own) t = leaves source l t ∷ []
 leftOf source (wrote at conn stream) t = []
 leftOf source (down at peer conn) t = []
 
@@ -108,9 +105,9 @@ Room source l removed = Unit {0}
 Room source l (until end) = refusesPunches l source ≡ false
 
 unfoldable pub Noted : PeerId → Call → Lot → Type 0
-Noted source (up l h peer conn relayed) t = Room source l t
-Noted source (input l buffer h stream kind bytes pending) t = Room source l t
-Noted source (tick l h) t = Room source l t
+Noted source (up l h own peer conn relayed) t = Room source l t
+Noted source (input l buffer h own stream kind bytes pending) t = Room source l t
+Noted source (tick l h own) t = Room source l t
 Noted source (wrote at conn stream) t = Unit {0}
 Noted source (down at peer conn) t = Unit {0}
 
@@ -123,9 +120,9 @@ AllNoted source (k ∷ ks) (t ∷ ts) = Noted source k (t .lot) × AllNoted sour
 
 -- the reply buffer that a call hands back; none is lent but to an input
 unfoldable pub buffer : InboundCircuit → Call → List (List ℕ)
-buffer c (up l h peer conn relayed) = []
-buffer c (input l lent h stream kind bytes pending) = inputOf c l h lent stream kind bytes pending .buffer ∷ []
-buffer c (tick l h) = []
+buffer c (up l h own peer conn relayed) = []
+buffer c (input l lent h own stream kind bytes pending) = inputBuffer c l h own lent stream kind bytes pending ∷ []
+buffer c (tick l h own) = []
 buffer c (wrote at conn stream) = []
 buffer c (down at peer conn) = []
 
@@ -135,9 +132,9 @@ buffers c (k ∷ ks) = buffer c k ∷ buffers (stepOf c k .circuit) ks
 
 -- the same by the book
 unfoldable pub bufferIs : Book → Call → Bool → List (List ℕ)
-bufferIs b (up l h peer conn relayed) r = []
-bufferIs b (input l lent h stream kind bytes pending) r = pick r lent (gathers h lent stream kind bytes (b .stage)) ∷ []
-bufferIs b (tick l h) r = []
+bufferIs b (up l h own peer conn relayed) r = []
+bufferIs b (input l lent h own stream kind bytes pending) r = pick r lent (gathers h lent stream kind bytes (b .stage)) ∷ []
+bufferIs b (tick l h own) r = []
 bufferIs b (wrote at conn stream) r = []
 bufferIs b (down at peer conn) r = []
 
@@ -151,6 +148,13 @@ buffersAre s who b (k ∷ ks) = bufferIs b k (turned (refusal who b k)) ∷ buff
 unfoldable pub answers : InboundCircuit → List Call → List ℕ
 answers c [] = []
 answers c (k ∷ ks) = answeredWith c k ∷ answers (stepOf c k .circuit) ks
+
+-- ---- connections that are taken
+
+-- whether each answer took one
+unfoldable pub tookAll : InboundCircuit → List Call → List Bool
+tookAll c [] = []
+tookAll c (k ∷ ks) = answerTo c k .took ∷ tookAll (stepOf c k .circuit) ks
 
 -- ---- all calls on a new circuit
 
@@ -179,23 +183,28 @@ pub record RefusalsByTheRule (source relay : PeerId) (circuit : ConnectionId) (s
   -- so what the book of demand 3 is told of refusals it could tell by itself
   pub which : refusals (begun source relay circuit s at) calls ≡ turnedAll (numbers s (whoOf source relay circuit) (fresh s at) calls)
 
+abbrev pub TookByTheRule : Type 0
+TookByTheRule =
+    (source relay : PeerId) (circuit : ConnectionId) (s : Settings) (at : ℕ) (calls : List Call)
+    → tookAll (begun source relay circuit s at) calls ≡ takesAll s (whoOf source relay circuit) (fresh s at) calls
+
 -- a start (section 11.3): 3 where the plain sum passes the last time, and then the circuit is Done, as one whose handshake ran out; else its
 -- handshake ends at the sum
 pub record StartByTheRule (source relay : PeerId) (circuit : ConnectionId) (s : Settings) (at : ℕ) : Type 0 where
-  pub number : numberIn (startedOf source relay circuit s at .outcome) ≡ pick (ltb last (at + s .handshake)) 3 0
-  pub late : last < at + s .handshake → begun source relay circuit s at .phase ≡ Done false
-  pub timely : at + s .handshake ≤ last → begun source relay circuit s at .phase ≡ Handshaking (at + s .handshake)
+  pub number : numberIn (newAnswer source relay circuit s at .outcome) ≡ pick (ltb last (at + s .handshake)) 3 0
+  pub late : last < at + s .handshake → begun source relay circuit s at .core .phase ≡ Done false
+  pub timely : at + s .handshake ≤ last → begun source relay circuit s at .core .phase ≡ Handshaking (at + s .handshake)
 
--- an own list: whether it is broken, and the CONNECT that comes with it: the candidates chosen from it, framed (sections 4, 5 and 7)
+-- the CONNECT of an own list: the candidates chosen from it, framed (sections 4, 5 and 7), and nothing for a broken list
 pub record OwnList (list : List ℕ) : Type 0 where
-  pub whether : ownOf list .broken ≡ broken list
-  pub message : broken list ≡ false → bytesOf (ownOf list .connect) ≡ frameBytes Connect (own usual (entries list))
+  pub none : broken list ≡ true → bytesOf (ownConnect list) ≡ []
+  pub message : broken list ≡ false → bytesOf (ownConnect list) ≡ frameBytes Connect (own usual (entries list))
 
 -- ---- what follows
 
 -- Done is never left: no call changes such a circuit, or says anything
 abbrev pub DoneIsLast : Type 0
-DoneIsLast = (c : InboundCircuit) (promoted : Bool) → c .phase ≡ Done promoted → (k : Call) → (stepOf c k .circuit ≡ c) × (said c k ≡ [])
+DoneIsLast = (c : InboundCircuit) (promoted : Bool) → c .core .phase ≡ Done promoted → (k : Call) → (stepOf c k .circuit ≡ c) × (said c k ≡ [])
 
 -- no answer has more than three effects
 unfoldable pub AtMostThree : List (List Says) → Type 0

@@ -5,7 +5,6 @@ use Prim.Native.Nat.{ℕ, _+_, _-_, min}
 use mathlib.Core.Bool.{Bool, true, false}
 use mathlib.Core.List.{List, [], _∷_, _++_}
 use lib.Dec.{ltb, eqb}
-use lib.ListN.{take}
 use Rattle.prelude.specs.Choice.{pick, both}
 use Rattle.time.specs.Time.{last, plus}
 use Rattle.schedule.specs.Instants.{startOf}
@@ -13,19 +12,21 @@ use Rattle.schedule.specs.Readings.{Largest, none, larger}
 use Rattle.ids.specs.declared.ConnectionId.{ConnectionId}
 use Rattle.ids.specs.declared.StreamId.{StreamId}
 use Rattle.ids.specs.declared.PeerId.{PeerId}
-use Rattle.inbound.specs.declared.Settings.{Settings}
-use Rattle.inbound.specs.declared.Host.{Host}
-use Rattle.inbound.specs.declared.Live.{Live}
-use Rattle.inbound.specs.declared.Live.the-variants as live
-use Rattle.inbound.specs.declared.Offer.{Offer}
-use Rattle.inbound.specs.declared.Offer.the-variants as offer
-use Rattle.inbound.specs.declared.StreamInput.{StreamInput}
-use Rattle.inbound.specs.declared.StreamInput.the-variants as i
-use Rattle.inbound.specs.declared.ConnectWrite.{ConnectWrite}
-use Rattle.inbound.specs.declared.ConnectWrite.the-variants.{Unsent, Held, Sent}
+use Rattle.vocabulary.specs.declared.Settings.{Settings}
+use Rattle.vocabulary.specs.declared.Host.{Host}
+use Rattle.vocabulary.specs.declared.Live.{Live}
+use Rattle.vocabulary.specs.declared.Live.the-variants as live
+use Rattle.vocabulary.specs.declared.Offer.{Offer}
+use Rattle.vocabulary.specs.declared.Offer.the-variants as offer
+use Rattle.vocabulary.specs.declared.StreamInput.{StreamInput}
+use Rattle.vocabulary.specs.declared.StreamInput.the-variants as i
+use Rattle.inbound.specs.declared.state.ConnectWrite.{ConnectWrite}
+use Rattle.inbound.specs.declared.state.ConnectWrite.the-variants.{Unsent, Held, Sent}
 use Rattle.inbound.specs.Brought.{Brought, unfinished, failed, connect}
-use Rattle.initiator.specs.declared.Framed.{Framed}
-use Rattle.candidates.specs.Selection.{usual, selected}
+use Rattle.wire.specs.Lists.{entries}
+use Rattle.message.specs.Encoding.{frameBytes}
+use Rattle.message.specs.declared.Kind.the-variants.{Connect}
+use Rattle.candidates.specs.Selection.{usual, selected, own}
 use Rattle.history.specs.Heard.{heard}
 use Rattle.history.specs.Calls.{Call, up, input, tick, wrote, down}
 
@@ -97,13 +98,13 @@ abbrev pub isCircuit : Who → Live → Bool
 isCircuit who live.Nothing = false
 isCircuit who (live.On conn) = eqb (conn .0) (who .circuit .0)
 
--- the CONNECT of a round is that of the call that opens it
-abbrev pub bytesOf : Framed → List ℕ
-bytesOf m = take (m .len) (m .bytes)
+-- the CONNECT of a round, from the own list of the call that opens it: the candidates chosen from the list, framed (sections 4, 5 and 7)
+abbrev pub connectOf : List ℕ → List ℕ
+connectOf list = frameBytes Connect (own usual (entries list))
 
-abbrev pub begins : Settings → Host → Book → Offer → Book
-begins s h b offer.Nothing = closed b
-begins s h b (offer.Stream conn stream) =
+abbrev pub begins : Settings → Host → (own : List ℕ) → Book → Offer → Book
+begins s h own b offer.Nothing = closed b
+begins s h own b (offer.Stream conn stream) =
     record {
       stage = asking (record {
         conn = conn;
@@ -111,43 +112,43 @@ begins s h b (offer.Stream conn stream) =
         end = min (plus (h .at) (s .exchange)) (b .deadline);
         count = 0;
         connect = Unsent;
-        message = bytesOf (h .own .connect);
+        message = connectOf own;
       });
       deadline = b .deadline;
       rounds = b .rounds + 1;
       past = windows b;
     }
 
-abbrev pub wanted : Settings → Who → Host → Book → Book
-wanted s who h b =
-    pick (both (isCircuit who (h .live)) (both (ltb (b .rounds) 3) (ltb (h .at) (b .deadline)))) (begins s h b (h .offer)) (closed b)
+abbrev pub wanted : Settings → Who → Host → (own : List ℕ) → Book → Book
+wanted s who h own b =
+    pick (both (isCircuit who (h .live)) (both (ltb (b .rounds) 3) (ltb (h .at) (b .deadline)))) (begins s h own b (h .offer)) (closed b)
 
 -- tick (section 11.6); a reading that an accepted tick brings in a window, below the deadline, may be its largest
 abbrev pub seen : ℕ → Window → Window
 seen at w = record { list = w .list; start = w .start; end = w .end; trip = w .trip; largest = larger at (w .largest) }
 
-abbrev pub tickIn : Settings → Who → Host → Book → Stage → Book
-tickIn s who h b (handshaking end) = pick (ltb (h .at) end) b (closed b)
-tickIn s who h b (asking x) =
-    pick (ltb (h .at) (b .deadline)) (pick (ltb (h .at) (x .end)) b (wanted s who h b)) (closed b)
-tickIn s who h b (within w) =
+abbrev pub tickIn : Settings → Who → Host → (own : List ℕ) → Book → Stage → Book
+tickIn s who h own b (handshaking end) = pick (ltb (h .at) end) b (closed b)
+tickIn s who h own b (asking x) =
+    pick (ltb (h .at) (b .deadline)) (pick (ltb (h .at) (x .end)) b (wanted s who h own b)) (closed b)
+tickIn s who h own b (within w) =
     pick (ltb (h .at) (b .deadline))
-    (pick (ltb (h .at) (w .end)) (inStage b (within (seen (h .at) w))) (wanted s who h (inStage b (within (seen (h .at) w)))))
+    (pick (ltb (h .at) (w .end)) (inStage b (within (seen (h .at) w))) (wanted s who h own (inStage b (within (seen (h .at) w)))))
     (closed b)
-tickIn s who h b over = b
+tickIn s who h own b over = b
 
 -- up (section 11.5); where the circuit comes up, the deadline is set
 abbrev pub armed : Settings → Host → Book → Book
 armed s h b = record { stage = b .stage; deadline = plus (h .at) (s .upgrade); rounds = 0; past = b .past }
 
-abbrev pub upIn : Settings → Who → Host → Bool → ConnectionId → Book → Stage → Book
-upIn s who h relayed conn b (handshaking end) =
+abbrev pub upIn : Settings → Who → Host → (own : List ℕ) → Bool → ConnectionId → Book → Stage → Book
+upIn s who h own relayed conn b (handshaking end) =
     pick relayed
-    (pick (eqb (conn .0) (who .circuit .0)) (pick (s .upgrades) (wanted s who h (armed s h b)) (closed b)) b)
+    (pick (eqb (conn .0) (who .circuit .0)) (pick (s .upgrades) (wanted s who h own (armed s h b)) (closed b)) b)
     (closed b)
-upIn s who h relayed conn b (asking x) = pick relayed b (closed b)
-upIn s who h relayed conn b (within w) = pick relayed b (closed b)
-upIn s who h relayed conn b over = b
+upIn s who h own relayed conn b (asking x) = pick relayed b (closed b)
+upIn s who h own relayed conn b (within w) = pick relayed b (closed b)
+upIn s who h own relayed conn b over = b
 
 -- input (section 11.7)
 abbrev pub isClosing : StreamInput → Bool
@@ -180,35 +181,35 @@ abbrev pub withConnect : Asking → ConnectWrite → Asking
 withConnect x w = record { conn = x .conn; stream = x .stream; end = x .end; count = x .count; connect = w; message = x .message }
 
 -- what the bytes brought: no whole frame yet, a failed round, or a window with the addresses chosen from the reply
-abbrev pub replied : Settings → Who → Host → Book → Asking → Brought → Book
-replied s who h b x (unfinished n) = inStage b (asking (withCount x n))
-replied s who h b x failed = wanted s who h b
-replied s who h b x (connect addresses) =
+abbrev pub replied : Settings → Who → Host → (own : List ℕ) → Book → Asking → Brought → Book
+replied s who h own b x (unfinished n) = inStage b (asking (withCount x n))
+replied s who h own b x failed = wanted s who h own b
+replied s who h own b x (connect addresses) =
     inStage b (within (opened s (b .deadline) (h .at) (tripOf (x .connect) (h .at)) (selected usual (s .private) addresses)))
 
 -- CONNECT has gone out before
-abbrev pub answeredBy : Settings → Who → Host → List ℕ → StreamInput → List ℕ → Book → Asking → Book
-answeredBy s who h buffer i.Ready bytes b x = b
-answeredBy s who h buffer i.Data bytes b x = replied s who h b x (heard bytes buffer (x .count))
-answeredBy s who h buffer i.RemoteWriteClosed bytes b x = wanted s who h b
-answeredBy s who h buffer i.Closed bytes b x = wanted s who h b
+abbrev pub answeredBy : Settings → Who → Host → (own buffer : List ℕ) → StreamInput → List ℕ → Book → Asking → Book
+answeredBy s who h own buffer i.Ready bytes b x = b
+answeredBy s who h own buffer i.Data bytes b x = replied s who h own b x (heard bytes buffer (x .count))
+answeredBy s who h own buffer i.RemoteWriteClosed bytes b x = wanted s who h own b
+answeredBy s who h own buffer i.Closed bytes b x = wanted s who h own b
 
 -- before the exchange's end; the first input sends CONNECT, and its bytes are dropped
-abbrev pub inputTo : Settings → Who → Host → List ℕ → StreamInput → List ℕ → Bool → Book → Asking → ConnectWrite → Book
-inputTo s who h buffer kind bytes pending b x Unsent =
-    pick (isClosing kind) (wanted s who h b) (inStage b (asking (withConnect x (pick pending Held (Sent (h .at))))))
-inputTo s who h buffer kind bytes pending b x Held = answeredBy s who h buffer kind bytes b x
-inputTo s who h buffer kind bytes pending b x (Sent t) = answeredBy s who h buffer kind bytes b x
+abbrev pub inputTo : Settings → Who → Host → (own buffer : List ℕ) → StreamInput → List ℕ → Bool → Book → Asking → ConnectWrite → Book
+inputTo s who h own buffer kind bytes pending b x Unsent =
+    pick (isClosing kind) (wanted s who h own b) (inStage b (asking (withConnect x (pick pending Held (Sent (h .at))))))
+inputTo s who h own buffer kind bytes pending b x Held = answeredBy s who h own buffer kind bytes b x
+inputTo s who h own buffer kind bytes pending b x (Sent t) = answeredBy s who h own buffer kind bytes b x
 
 -- at or past the exchange's end it does what a tick does
-abbrev pub inputIn : Settings → Who → Host → List ℕ → StreamId → StreamInput → List ℕ → Bool → Book → Stage → Book
-inputIn s who h buffer stream kind bytes pending b (handshaking end) = b
-inputIn s who h buffer stream kind bytes pending b (asking x) =
+abbrev pub inputIn : Settings → Who → Host → (own buffer : List ℕ) → StreamId → StreamInput → List ℕ → Bool → Book → Stage → Book
+inputIn s who h own buffer stream kind bytes pending b (handshaking end) = b
+inputIn s who h own buffer stream kind bytes pending b (asking x) =
     pick (eqb (x .stream .0) (stream .0))
-    (pick (ltb (h .at) (x .end)) (inputTo s who h buffer kind bytes pending b x (x .connect)) (tickIn s who h b (asking x)))
+    (pick (ltb (h .at) (x .end)) (inputTo s who h own buffer kind bytes pending b x (x .connect)) (tickIn s who h own b (asking x)))
     b
-inputIn s who h buffer stream kind bytes pending b (within w) = b
-inputIn s who h buffer stream kind bytes pending b over = b
+inputIn s who h own buffer stream kind bytes pending b (within w) = b
+inputIn s who h own buffer stream kind bytes pending b over = b
 
 -- wrote and down (section 11.8)
 abbrev pub wroteTo : ℕ → Book → Asking → ConnectWrite → Book
@@ -225,9 +226,9 @@ wroteIn at conn stream b over = b
 
 -- a call that was accepted
 unfoldable pub note : Settings → Who → Book → Call → Book
-note s who b (up l h peer conn relayed) = pick (eqb (peer .0) (who .source .0)) (upIn s who h relayed conn b (b .stage)) b
-note s who b (input l buffer h stream kind bytes pending) = inputIn s who h buffer stream kind bytes pending b (b .stage)
-note s who b (tick l h) = tickIn s who h b (b .stage)
+note s who b (up l h own peer conn relayed) = pick (eqb (peer .0) (who .source .0)) (upIn s who h own relayed conn b (b .stage)) b
+note s who b (input l buffer h own stream kind bytes pending) = inputIn s who h own buffer stream kind bytes pending b (b .stage)
+note s who b (tick l h own) = tickIn s who h own b (b .stage)
 note s who b (wrote at conn stream) = wroteIn at conn stream b (b .stage)
 note s who b (down at peer conn) = pick (eqb (conn .0) (who .circuit .0)) (closed b) b
 

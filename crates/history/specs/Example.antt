@@ -7,14 +7,13 @@ use Rattle.ids.specs.declared.ConnectionId.{ConnectionId}
 use Rattle.ids.specs.declared.StreamId.{StreamId}
 use Rattle.ids.specs.declared.PeerId.{PeerId}
 use Rattle.ledger.specs.Ledger.{emptyLedger}
-use Rattle.inbound.specs.declared.InboundCircuit.{InboundCircuit}
-use Rattle.inbound.specs.declared.Settings.{Settings}
-use Rattle.inbound.specs.declared.Host.{Host}
-use Rattle.inbound.specs.declared.Live.the-variants.{On}
-use Rattle.inbound.specs.declared.Offer.the-variants.{Stream}
-use Rattle.inbound.specs.declared.StreamInput.the-variants.{Ready, Data}
-use Rattle.inbound.specs.Circuit.{newOf}
-use Rattle.inbound.specs.Input.{ownOf}
+use Rattle.inbound.specs.declared.circuit.InboundCircuit.{InboundCircuit}
+use Rattle.vocabulary.specs.declared.Settings.{Settings}
+use Rattle.vocabulary.specs.declared.Host.{Host}
+use Rattle.vocabulary.specs.declared.Live.the-variants.{On}
+use Rattle.vocabulary.specs.declared.Offer.the-variants.{Stream}
+use Rattle.vocabulary.specs.declared.StreamInput.the-variants.{Ready, Data}
+use Rattle.inbound.specs.Circuits.{newAnswer}
 use Rattle.history.specs.Calls.{Call, up, input, tick, Datagram, stepOf}
 use Rattle.history.specs.Book.{Who, fresh}
 use Rattle.history.specs.Tells.{Says, path, burst, send, reset, opens, Lot, stays, until, Told, sync, tellsAll}
@@ -44,9 +43,13 @@ settings =
       upgrades = true;
     }
 
--- live=7 offer=7:n own=-
+-- live=7 offer=7:n
 abbrev pub host : ℕ → ℕ → Host
-host at n = record { at = at; live = On circuit; offer = Stream circuit (stream n); own = ownOf [] }
+host at n = record { at = at; live = On circuit; offer = Stream circuit (stream n) }
+
+-- own=-
+abbrev pub own : List ℕ
+own = []
 
 -- a reply buffer of the least length
 unfoldable pub buffer : List ℕ
@@ -61,11 +64,11 @@ reply = 0x0f ∷ 0x08 ∷ 0x64 ∷ 0x12 ∷ 0x0b ∷ address
 
 unfoldable pub calls : List Call
 calls =
-    up emptyLedger (host 10 4) source circuit true
-    ∷ input emptyLedger buffer (host 20 8) (stream 4) Ready [] false
-    ∷ input emptyLedger buffer (host 60 8) (stream 4) Data reply false
-    ∷ tick emptyLedger (host 130 8)
-    ∷ tick emptyLedger (host 180 8)
+    up emptyLedger (host 10 4) own source circuit true
+    ∷ input emptyLedger buffer (host 20 8) own (stream 4) Ready [] false
+    ∷ input emptyLedger buffer (host 60 8) own (stream 4) Data reply false
+    ∷ tick emptyLedger (host 130 8) own
+    ∷ tick emptyLedger (host 180 8) own
     ∷ []
 
 -- the datagrams of each answer
@@ -81,7 +84,7 @@ abbrev pub expected : List (List Datagram)
 expected = [] ∷ [] ∷ [] ∷ (datagram ∷ datagram ∷ []) ∷ (datagram ∷ []) ∷ []
 
 abbrev pub begun : InboundCircuit
-begun = newOf source relay circuit settings 0
+begun = newAnswer source relay circuit settings 0 .circuit
 
 -- ---- what the book tells of it (section 12.8)
 

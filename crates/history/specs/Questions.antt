@@ -15,11 +15,11 @@ use Rattle.path.specs.declared.Claim.{Claim}
 use Rattle.path.specs.declared.Claim.the-variants.{Circuit}
 use Rattle.path.specs.declared.Claim.the-variants as claim
 use Rattle.path.specs.declared.Owner.the-variants.{Inbound}
-use Rattle.inbound.specs.declared.Settings.{Settings}
-use Rattle.inbound.specs.declared.InboundCircuit.{InboundCircuit}
-use Rattle.inbound.specs.declared.Deadline.{Deadline}
-use Rattle.inbound.specs.declared.Deadline.the-variants.{At, None}
-use Rattle.inbound.specs.Circuit.{nextDeadlineAt, claimOf, promotesOf}
+use Rattle.vocabulary.specs.declared.Settings.{Settings}
+use Rattle.inbound.specs.declared.circuit.InboundCircuit.{InboundCircuit}
+use Rattle.vocabulary.specs.declared.Deadline.{Deadline}
+use Rattle.vocabulary.specs.declared.Deadline.the-variants.{At, None}
+use Rattle.inbound.specs.Questions.{nextDeadlineAt, claimOf, promotesOf}
 use Rattle.history.specs.Calls.{Call, up, input, tick, wrote, down, stepOf}
 use Rattle.history.specs.Book.{Window, Stage, handshaking, asking, within, over, Book, Who, fresh}
 use Rattle.history.specs.Refuses.{refusal, turned, next, nextAll}
@@ -61,9 +61,9 @@ lapses at (within w) = false
 lapses at over = false
 
 unfoldable pub lapsed : Book → Call → Bool
-lapsed b (up l h peer conn relayed) = false
-lapsed b (input l buffer h stream kind bytes pending) = false
-lapsed b (tick l h) = lapses (h .at) (b .stage)
+lapsed b (up l h own peer conn relayed) = false
+lapsed b (input l buffer h own stream kind bytes pending) = false
+lapsed b (tick l h own) = lapses (h .at) (b .stage)
 lapsed b (wrote at conn stream) = false
 lapsed b (down at peer conn) = false
 
@@ -85,9 +85,11 @@ abbrev pub bookAfter : PeerId → PeerId → ConnectionId → Settings → ℕ �
 bookAfter source relay circuit s at calls = nextAll s (whoOf source relay circuit) (fresh s at) calls
 
 pub record QuestionsByTheRule (source relay : PeerId) (circuit : ConnectionId) (s : Settings) (at : ℕ) (calls : List Call) : Type 0 where
-  pub deadline : nextDeadlineAt (afterAll (begun source relay circuit s at) calls) (afterAll (begun source relay circuit s at) calls .phase)
+  pub deadline : nextDeadlineAt (afterAll (begun source relay circuit s at) calls .core)
+      (afterAll (begun source relay circuit s at) calls .core .phase)
       ≡ again s (bookAfter source relay circuit s at calls) (bookAfter source relay circuit s at calls .stage)
   pub claim : (conn : ConnectionId)
-      → claimOf (afterAll (begun source relay circuit s at) calls) conn
+      → claimOf (afterAll (begun source relay circuit s at) calls .core) conn
       ≡ claims (whoOf source relay circuit) (bookAfter source relay circuit s at calls) conn
-  pub promote : (conn : ConnectionId) → promotesOf (afterAll (begun source relay circuit s at) calls) conn ≡ promotes source relay circuit s at calls conn
+  pub promote : (conn : ConnectionId) → promotesOf (afterAll (begun source relay circuit s at) calls .core) conn
+      ≡ promotes source relay circuit s at calls conn

@@ -7,11 +7,12 @@ use lib.Dec.{ltb, eqb}
 use lib.ListN.{length}
 use Rattle.prelude.specs.Choice.{pick, both, no}
 use Rattle.ids.specs.declared.StreamId.{StreamId}
+use Rattle.wire.specs.Lists.{broken}
 use Rattle.ledger.specs.Ledger.{refusesPunches}
-use Rattle.inbound.specs.declared.Settings.{Settings}
-use Rattle.inbound.specs.declared.Host.{Host}
-use Rattle.inbound.specs.declared.Offer.{Offer}
-use Rattle.inbound.specs.declared.StreamInput.{StreamInput}
+use Rattle.vocabulary.specs.declared.Settings.{Settings}
+use Rattle.vocabulary.specs.declared.Host.{Host}
+use Rattle.vocabulary.specs.declared.Offer.{Offer}
+use Rattle.vocabulary.specs.declared.StreamInput.{StreamInput}
 use Rattle.history.specs.Heard.{heard}
 use Rattle.history.specs.Calls.{Call, up, input, tick, wrote, down}
 use Rattle.history.specs.Numbers.{isPair, wentOut, isData, isConnect}
@@ -39,26 +40,26 @@ before broken stage o other = pick broken 5 (pick (offered stage o) 2 other)
 
 -- the own list is broken; the source has no window in the ledger, and 64 others have
 unfoldable pub refuses : (broken full : Bool) → Book → Call → ℕ
-refuses broken full b (up l h peer conn relayed) = before broken (b .stage) (h .offer) 0
-refuses broken full b (input l buffer h stream kind bytes pending) =
+refuses broken full b (up l h own peer conn relayed) = before broken (b .stage) (h .offer) 0
+refuses broken full b (input l buffer h own stream kind bytes pending) =
     pick (ltb (length buffer) 4098) 1
     (before broken (b .stage) (h .offer) (pick (both (completes h buffer stream kind bytes (b .stage)) full) 4 0))
-refuses broken full b (tick l h) = before broken (b .stage) (h .offer) 0
+refuses broken full b (tick l h own) = before broken (b .stage) (h .offer) 0
 refuses broken full b (wrote at conn stream) = 0
 refuses broken full b (down at peer conn) = 0
 
 -- both of what a call lends
 unfoldable pub lendsBroken : Call → Bool
-lendsBroken (up l h peer conn relayed) = h .own .broken
-lendsBroken (input l buffer h stream kind bytes pending) = h .own .broken
-lendsBroken (tick l h) = h .own .broken
+lendsBroken (up l h own peer conn relayed) = broken own
+lendsBroken (input l buffer h own stream kind bytes pending) = broken own
+lendsBroken (tick l h own) = broken own
 lendsBroken (wrote at conn stream) = false
 lendsBroken (down at peer conn) = false
 
 unfoldable pub lendsFull : Who → Call → Bool
-lendsFull who (up l h peer conn relayed) = refusesPunches l (who .source)
-lendsFull who (input l buffer h stream kind bytes pending) = refusesPunches l (who .source)
-lendsFull who (tick l h) = refusesPunches l (who .source)
+lendsFull who (up l h own peer conn relayed) = refusesPunches l (who .source)
+lendsFull who (input l buffer h own stream kind bytes pending) = refusesPunches l (who .source)
+lendsFull who (tick l h own) = refusesPunches l (who .source)
 lendsFull who (wrote at conn stream) = false
 lendsFull who (down at peer conn) = false
 

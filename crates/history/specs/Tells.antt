@@ -4,22 +4,22 @@ use Prim.Native.Nat.{ℕ, _-_}
 use mathlib.Core.Bool.{Bool, true, false}
 use mathlib.Core.List.{List, [], _∷_, _++_}
 use lib.Dec.{ltb, eqb}
-use Rattle.prelude.specs.Choice.{pick, both, either}
+use Rattle.prelude.specs.Choice.{pick, both, either, no}
 use Rattle.schedule.specs.Readings.{larger, counted}
 use Rattle.candidates.specs.Selection.{usual, selected}
 use Rattle.ids.specs.declared.ConnectionId.{ConnectionId}
 use Rattle.ids.specs.declared.StreamId.{StreamId}
 use Rattle.ids.specs.declared.PeerId.{PeerId}
-use Rattle.inbound.specs.declared.Settings.{Settings}
-use Rattle.inbound.specs.declared.Host.{Host}
-use Rattle.inbound.specs.declared.Offer.{Offer}
-use Rattle.inbound.specs.declared.Offer.the-variants as offer
-use Rattle.inbound.specs.declared.StreamInput.{StreamInput}
-use Rattle.inbound.specs.declared.StreamInput.the-variants as i
-use Rattle.inbound.specs.declared.ConnectWrite.{ConnectWrite}
-use Rattle.inbound.specs.declared.ConnectWrite.the-variants.{Unsent, Held, Sent}
+use Rattle.vocabulary.specs.declared.Settings.{Settings}
+use Rattle.vocabulary.specs.declared.Host.{Host}
+use Rattle.vocabulary.specs.declared.Offer.{Offer}
+use Rattle.vocabulary.specs.declared.Offer.the-variants as offer
+use Rattle.vocabulary.specs.declared.StreamInput.{StreamInput}
+use Rattle.vocabulary.specs.declared.StreamInput.the-variants as i
+use Rattle.inbound.specs.declared.state.ConnectWrite.{ConnectWrite}
+use Rattle.inbound.specs.declared.state.ConnectWrite.the-variants.{Unsent, Held, Sent}
 use Rattle.inbound.specs.Brought.{Brought, unfinished, failed, connect}
-use Rattle.initiator.specs.Gathering.{gatheredInto}
+use Rattle.frames.specs.Gathering.{gatheredInto}
 use Rattle.history.specs.Numbers.{wentOut, isData}
 use Rattle.history.specs.Heard.{heard}
 use Rattle.history.specs.Calls.{Call, up, input, tick, wrote, down}
@@ -105,6 +105,15 @@ upTells s who h relayed conn b (asking x) =
 upTells s who h relayed conn b (within w) = pick relayed nothing (only (upgrade (who .source) (who .circuit) conn ∷ []))
 upTells s who h relayed conn b over = nothing
 
+-- ---- whether an up takes the connection as the circuit's own (section 11.5): one from the source, while the circuit is not over, that is direct
+-- or is the circuit itself
+
+abbrev pub upTakes : Who → Bool → ConnectionId → Stage → Bool
+upTakes who relayed conn (handshaking end) = either (no relayed) (eqb (conn .0) (who .circuit .0))
+upTakes who relayed conn (asking x) = either (no relayed) (eqb (conn .0) (who .circuit .0))
+upTakes who relayed conn (within w) = either (no relayed) (eqb (conn .0) (who .circuit .0))
+upTakes who relayed conn over = false
+
 -- ---- input (section 11.7)
 
 -- SYNC behind its length (section 4)
@@ -159,13 +168,26 @@ gathers h buffer stream kind bytes over = buffer
 -- ---- a call that was accepted
 
 unfoldable pub tells : Settings → Who → Book → Call → Told
-tells s who b (up l h peer conn relayed) = pick (eqb (peer .0) (who .source .0)) (upTells s who h relayed conn b (b .stage)) nothing
-tells s who b (input l buffer h stream kind bytes pending) = inputTells s who h buffer stream kind bytes b (b .stage)
-tells s who b (tick l h) = tickTells s who h b (b .stage)
+tells s who b (up l h own peer conn relayed) = pick (eqb (peer .0) (who .source .0)) (upTells s who h relayed conn b (b .stage)) nothing
+tells s who b (input l buffer h own stream kind bytes pending) = inputTells s who h buffer stream kind bytes b (b .stage)
+tells s who b (tick l h own) = tickTells s who h b (b .stage)
 tells s who b (wrote at conn stream) = nothing
 tells s who b (down at peer conn) = nothing
+
+-- no other call takes a connection
+unfoldable pub takes : Who → Book → Call → Bool
+takes who b (up l h own peer conn relayed) = both (eqb (peer .0) (who .source .0)) (upTakes who relayed conn (b .stage))
+takes who b (input l buffer h own stream kind bytes pending) = false
+takes who b (tick l h own) = false
+takes who b (wrote at conn stream) = false
+takes who b (down at peer conn) = false
 
 -- all calls; a refused call says nothing, and nothing changes
 unfoldable pub tellsAll : Settings → Who → Book → List Call → List Told
 tellsAll s who b [] = []
 tellsAll s who b (k ∷ ks) = pick (turned (refusal who b k)) nothing (tells s who b k) ∷ tellsAll s who (next s who b k) ks
+
+-- a refused call takes nothing
+unfoldable pub takesAll : Settings → Who → Book → List Call → List Bool
+takesAll s who b [] = []
+takesAll s who b (k ∷ ks) = pick (turned (refusal who b k)) false (takes who b k) ∷ takesAll s who (next s who b k) ks

@@ -5,13 +5,13 @@ ghost use mathlib.Core.List.{List};
 ghost use Prim.Native.Nat.{ℕ};
 ghost use Rattle.ids.specs.declared.PeerId.{PeerId};
 ghost use Rattle.ids.specs.declared.ConnectionId.{ConnectionId};
-ghost use Rattle.inbound.specs.declared.InboundCircuit.{InboundCircuit};
-ghost use Rattle.inbound.specs.declared.Settings.{Settings};
+ghost use Rattle.inbound.specs.declared.circuit.InboundCircuit.{InboundCircuit};
+ghost use Rattle.vocabulary.specs.declared.Settings.{Settings};
 ghost use Rattle.history.specs.Calls.{Call, stepOf};
 ghost use Rattle.history.specs.Refusals.{ChangesNothing};
 ghost use Rattle.history.specs.Numbers.{refusedWith, answeredWith};
 ghost use Rattle.history.specs.Demand3.{Demand3, due, windowsOf};
-ghost use Rattle.history.specs.Answers.{saidIs, EffectsByTheRule, LedgerByTheRule, BuffersByTheRule, RefusalsByTheRule, StartByTheRule, OwnList, DoneIsLast, ThreeEffects};
+ghost use Rattle.history.specs.Answers.{saidIs, EffectsByTheRule, LedgerByTheRule, BuffersByTheRule, RefusalsByTheRule, TookByTheRule, StartByTheRule, OwnList, DoneIsLast, ThreeEffects};
 ghost use Rattle.history.specs.Questions.{QuestionsByTheRule};
 ghost use Rattle.history.specs.Example.{source, relay, circuit, begun, calls, each, expected, sayings, lots, lotsOf, told};
 ghost use Rattle.history.specs.ThreeRounds as three;
@@ -51,6 +51,11 @@ pub fn refusals_by_the_rule()
     ensures { λ _. ⌜ ((source relay : PeerId) (circuit : ConnectionId) (s : Settings) (at : ℕ) (calls : List Call) → RefusalsByTheRule source relay circuit s at calls) ⌝ }
 {}
 
+// Each up takes the connection as the circuit's own just where the book tells it; no other call does, and no refused one.
+pub fn took_by_the_rule()
+    ensures { λ _. ⌜ TookByTheRule ⌝ }
+{}
+
 // A start is refused with 3 where the reading and the handshake together pass the last time, and only there.
 pub fn start_by_the_rule()
     ensures { λ _. ⌜ ((source relay : PeerId) (circuit : ConnectionId) (s : Settings) (at : ℕ) → StartByTheRule source relay circuit s at) ⌝ }
@@ -71,7 +76,7 @@ pub fn three_effects()
     ensures { λ _. ⌜ ThreeEffects ⌝ }
 {}
 
-// Whether an own list is broken; its CONNECT carries the candidates chosen from it, behind its length.
+// The CONNECT of an own list carries the candidates chosen from it, behind its length; that of a broken list is empty.
 pub fn own_message()
     ensures { λ _. ⌜ ((list : List ℕ) → OwnList list) ⌝ }
 {}

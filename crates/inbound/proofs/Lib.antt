@@ -1,2 +1,4 @@
 pub mod Replies
-pub mod Owns
+pub mod Carries
+pub mod Awaits
+pub mod Turned

@@ -1,4 +1,4 @@
--- What peeking at a reply answers, by what its bytes bring; the targets among its addresses; the CONNECT of an own list.
+-- What peeking at a reply answers, by what its bytes bring; the targets among its addresses.
 -- Assumes nothing.
 use mathlib.Core.Path.{_≡_, refl, sym, _∙_, ap, subst}
 use mathlib.Core.Bool.{Bool, true, false}
@@ -21,20 +21,19 @@ use Rattle.message.specs.declared.Kind.the-variants.{Connect, Sync}
 use Rattle.message.specs.declared.Decoded.the-variants as d
 use Rattle.message.proofs.Answers.{room-enough}
 use Rattle.message.proofs.Scan.{list-long, listed-more}
-use Rattle.initiator.specs.Gathering.{gathered, gatheredInto}
+use Rattle.frames.specs.Gathering.{gathered, gatheredInto}
 use Rattle.initiator.specs.Replies.{replied, messageAt, replyFrom, listFrom, replyOf, replyInto}
 use Rattle.initiator.specs.declared.Reply.{Reply}
 use Rattle.initiator.specs.declared.Reply.the-variants as r
-use Rattle.initiator.proofs.Gathers.{gathers-front}
+use Rattle.frames.proofs.Gathers.{gathers-front}
 use Rattle.candidates.specs.declared.Chosen.{Chosen}
 use Rattle.candidates.specs.declared.Selection.{Selection}
 use Rattle.candidates.proofs.Answers.{answer-kept}
 use Rattle.candidates.specs.Selection.{usual, selected, packed}
 use Rattle.inbound.specs.Brought.{Brought, unfinished, failed, connect, fromContent, fromFrame, broughtBy}
-use Rattle.inbound.specs.Answers.{noTargets}
-use Rattle.inbound.specs.Input.{noList, chosenFrom, targetsFrom, peekedOf}
-use Rattle.inbound.specs.declared.Peeked.{Peeked}
-use Rattle.inbound.specs.declared.Peek.the-variants as peek
+use Rattle.inbound.specs.Replies.{noList, chosenFrom, targetsFrom, peekedOf}
+use Rattle.inbound.specs.declared.reply.Peeked.{Peeked}
+use Rattle.inbound.specs.declared.input.Heard.the-variants as heard
 
 -- ---- the reply
 
@@ -192,11 +191,11 @@ module _ (xs b : List ℕ) (n : ℕ) (private : Bool) {a : Reply} {z o : List �
   at-blank : a ≡ replyOf xs b n (length noList)
   at-blank = e ∙ ap (λ (l : List ℕ). replyOf xs b n (length l)) blank
 
-  pub peek-more : {k : ℕ} {t : Chosen} → a ≡ r.More k → t ≡ noTargets → record { reply = peek.More k; targets = t } ≡ peekedOf private (broughtBy xs b n)
+  pub peek-more : {k : ℕ} {t : Chosen} → a ≡ r.More k → t ≡ packed [] → record { heard = heard.More k; targets = t } ≡ peekedOf private (broughtBy xs b n)
   unfolding peekedOf
   peek-more g h = rw (brings-more xs b n at-blank g, h)
 
-  pub peek-failed : {t : Chosen} → a ≡ r.Failed → t ≡ noTargets → record { reply = peek.Failed; targets = t } ≡ peekedOf private (broughtBy xs b n)
+  pub peek-failed : {t : Chosen} → a ≡ r.Failed → t ≡ packed [] → record { heard = heard.Failed; targets = t } ≡ peekedOf private (broughtBy xs b n)
   unfolding peekedOf
   peek-failed g h = rw (brings-nothing xs b n at-blank g, h)
 
@@ -211,42 +210,9 @@ module _ (xs b : List ℕ) (n : ℕ) (private : Bool) {a : Reply} {z o : List �
       into-long = long-into xs b n z
 
   pub peek-connect : {k : ℕ} {t : Chosen} → a ≡ r.Connect k → t ≡ chosenFrom private (take k o)
-      → record { reply = peek.Connect; targets = t } ≡ peekedOf private (broughtBy xs b n)
+      → record { heard = heard.Connect; targets = t } ≡ peekedOf private (broughtBy xs b n)
   unfolding peekedOf
   peek-connect {k} {t} g h =
       let w = brings-connect xs b n at-blank g in
       let i : o ≡ replyInto xs b n noList = f ∙ ap (replyInto xs b n) blank in
       rw (w .1 .0, h ∙ ap (λ (m : ℕ). chosenFrom private (take m o)) (w .1 .1) ∙ targets-are xs b n private (w .0) (w .1 .0) i)
-
--- of what was peeked at
-module _ (private : Bool) (x : Brought) {p : Peeked} (e : p ≡ peekedOf private x) where
-  reply-is : p .reply ≡ peekedOf private x .reply
-  reply-is = ap (λ (q : Peeked). q .reply) e
-
-  pub was-more : {k : ℕ} → p .reply ≡ peek.More k → x ≡ unfinished k
-  unfolding peekedOf
-  was-more {k} g = go x (sym reply-is ∙ g)
-    where
-      go : (x : Brought) → peekedOf private x .reply ≡ peek.More k → x ≡ unfinished k
-      go (unfinished m) h = cc
-      go failed h = absurd (let z : _≡_ {A = ℕ} 0 1 = cc in omega arith)
-      go (connect those) h = absurd (let z : _≡_ {A = ℕ} 0 1 = cc in omega arith)
-
-  pub was-failed : p .reply ≡ peek.Failed → x ≡ failed
-  unfolding peekedOf
-  was-failed g = go x (sym reply-is ∙ g)
-    where
-      go : (x : Brought) → peekedOf private x .reply ≡ peek.Failed → x ≡ failed
-      go (unfinished m) h = absurd (let z : _≡_ {A = ℕ} 0 1 = cc in omega arith)
-      go failed h = refl
-      go (connect those) h = absurd (let z : _≡_ {A = ℕ} 0 1 = cc in omega arith)
-
-  pub was-connect : p .reply ≡ peek.Connect → (those : List (List ℕ)) × ((x ≡ connect those) × (p .targets ≡ targetsFrom private those))
-  unfolding peekedOf
-  was-connect g = go x (sym reply-is ∙ g) (ap (λ (q : Peeked). q .targets) e)
-    where
-      go : (x : Brought) → peekedOf private x .reply ≡ peek.Connect → p .targets ≡ peekedOf private x .targets
-          → (those : List (List ℕ)) × ((x ≡ connect those) × (p .targets ≡ targetsFrom private those))
-      go (unfinished m) h i = absurd (let z : _≡_ {A = ℕ} 0 1 = cc in omega arith)
-      go failed h i = absurd (let z : _≡_ {A = ℕ} 0 1 = cc in omega arith)
-      go (connect those) h i = (those, (refl, i))

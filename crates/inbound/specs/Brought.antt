@@ -7,7 +7,7 @@ use Rattle.wire.specs.declared.Frame.{Frame}
 use Rattle.wire.specs.declared.Frame.the-variants.{More, Whole, Broken}
 use Rattle.message.specs.Message.{Content, says, refused, contentOf, typeNumber}
 use Rattle.message.specs.declared.Kind.the-variants.{Connect}
-use Rattle.initiator.specs.Gathering.{gathered, gatheredInto}
+use Rattle.frames.specs.Gathering.{gathered, gatheredInto}
 use Rattle.initiator.specs.Replies.{messageAt}
 
 -- so many frame bytes and no whole frame; a broken frame, or a message that is no CONNECT; a CONNECT with its addresses

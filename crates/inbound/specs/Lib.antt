@@ -1,4 +1,13 @@
-pub mod Answers
+pub mod State
+pub mod Decisions
+pub mod Refusals
+pub mod Rounds
+pub mod Ticks
+pub mod Ups
+pub mod Inputs
 pub mod Brought
-pub mod Circuit
-pub mod Input
+pub mod Replies
+pub mod Carried
+pub mod Calls
+pub mod Circuits
+pub mod Questions

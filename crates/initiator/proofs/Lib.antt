@@ -1,3 +1,1 @@
-pub mod Gathers
-pub mod Frames
 pub mod Peeks

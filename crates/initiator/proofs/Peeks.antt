@@ -16,11 +16,11 @@ use Rattle.message.specs.declared.Kind.the-variants.{Connect, Sync}
 use Rattle.message.specs.declared.Decoded.{Decoded}
 use Rattle.message.specs.declared.Decoded.the-variants.{Message, Refused}
 use Rattle.refusal.specs.declared.Refusal.{Refusal}
-use Rattle.initiator.specs.Gathering.{gathered, gatheredInto}
+use Rattle.frames.specs.Gathering.{gathered, gatheredInto}
 use Rattle.initiator.specs.Replies.{replied, messageAt, replyOf, replyInto}
-use Rattle.initiator.specs.declared.Gathered.{Gathered}
+use Rattle.frames.specs.declared.Gathered.{Gathered}
 use Rattle.initiator.specs.declared.Reply.{Reply}
-use Rattle.initiator.proofs.Gathers.{gathers-front}
+use Rattle.frames.proofs.Gathers.{gathers-front, stored-of}
 use Rattle.wire.specs.declared.Frame.the-variants as f
 use Rattle.initiator.specs.declared.Reply.the-variants as r
 
@@ -93,13 +93,6 @@ pub is-refused : {d : Decoded} {w : Refusal} {x : Decoded} → d ≡ x → d ≡
 is-refused e g = rw (← e, g)
 
 -- ---- what was gathered
-
-module _ (xs b : List ℕ) (n : ℕ) {g : Gathered} (e : g ≡ gathered xs b n) where
-  pub span-of : (n ≤ g .count) × (g .count ≤ n + length xs)
-  span-of = let w = gathers-front xs b n in let c = ap (λ (x : Gathered). x .count) e in (omega (arith, w .grows, c), omega (arith, w .inside, c))
-
-  pub stored-of : sets b n (take (g .count - n) xs) ≡ gatheredInto xs b n
-  stored-of = ap (λ (x : Gathered). sets b n (take (x .count - n) xs)) e ∙ sym (gathers-front xs b n .into)
 
 module _ (xs b : List ℕ) (n : ℕ) (o : List ℕ) {g : Gathered} (e : g ≡ gathered xs b n) where
   pub reply-more : g .frame ≡ f.More → (r.More (g .count) ≡ replyOf xs b n (length o)) × (o ≡ replyInto xs b n o)

@@ -1,3 +1,1 @@
-pub mod Sent
-pub mod Gathering
 pub mod Replies

@@ -8,7 +8,7 @@ use Rattle.message.specs.Message.{decodeOf, decodeInto}
 use Rattle.message.specs.declared.Kind.the-variants.{Connect, Sync}
 use Rattle.message.specs.declared.Decoded.{Decoded}
 use Rattle.message.specs.declared.Decoded.the-variants.{Message, Refused}
-use Rattle.initiator.specs.Gathering.{gathered, gatheredInto}
+use Rattle.frames.specs.Gathering.{gathered, gatheredInto}
 use Rattle.initiator.specs.declared.Reply.{Reply}
 use Rattle.initiator.specs.declared.Reply.the-variants as r
 

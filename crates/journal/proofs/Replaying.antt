@@ -15,8 +15,10 @@ use Rattle.line_program.specs.Reads.{left, feed, Read, NextLine}
 use Rattle.journal_lines.specs.declared.First.{First}
 use Rattle.journal_prints.specs.Room.{room, isRefused}
 use Rattle.journal_prints.proofs.Room.{short}
-use Rattle.journal_turns.specs.Turns.{longest}
-use Rattle.journal_turns.specs.declared.Journal.{Journal}
+use Rattle.ledger.specs.Ledger.{PathLedger, tablesOf, emptyLedger}
+use Rattle.inbound.specs.Circuits.{noFrame, noAims}
+use Rattle.journal_turns.specs.Turns.{Journal, stateOf, whole, newJournal, longest}
+use Rattle.journal_turns.specs.declared.State.{State as Numbers}
 use Rattle.journal_text.specs.Texts.{firstOf, isGood, opened, openingText}
 use Rattle.journal_text.specs.Journals.{cut, linesOf, linesText, opening, textOf, journalText}
 use Rattle.journal_text.proofs.Cutting.{lines as law, long-first}
@@ -74,8 +76,19 @@ good-text : (l : Line) (rest : List Line) → isGood (firstOf (l .0) (l .1)) ≡
 unfolding opening
 good-text l rest n = rw n
 
-module _ (reply out : List ℕ) (zero : reply ≡ replicate 4098 0) (ho : 4 * room ≤ length out)
-    {line block line′ : List ℕ} {r : Reading} (x : NextLine line [] block line′ r) (hl : longest ≤ length line) where
+-- what is lent is blank at first
+pub blank-lent : {connect targets sent ws : List ℕ} → connect ≡ noFrame → targets ≡ noAims → sent ≡ noFrame → ws ≡ replicate 963 0
+    → tablesOf ws ≡ emptyLedger → (f : First) → whole (stateOf (opened f)) connect targets (tablesOf ws) ws sent ≡ opened f
+unfolding opened newJournal
+blank-lent {connect} {targets} {sent} {ws} a b c d e f =
+    ap (λ (x : List ℕ). whole (stateOf (opened f)) x targets (tablesOf ws) ws sent) a
+    ∙ ap (λ (x : List ℕ). whole (stateOf (opened f)) noFrame x (tablesOf ws) ws sent) b
+    ∙ ap (λ (x : List ℕ). whole (stateOf (opened f)) noFrame noAims (tablesOf ws) ws x) c
+    ∙ ap (λ (x : PathLedger). whole (stateOf (opened f)) noFrame noAims x ws noFrame) e
+    ∙ ap (λ (x : List ℕ). whole (stateOf (opened f)) noFrame noAims emptyLedger x noFrame) d
+
+module _ (reply out : List ℕ) (zero : reply ≡ replicate 4098 0) (ho : 4 * room ≤ length out) (lent : Numbers → Journal)
+    (blank : (f : First) → lent (stateOf (opened f)) ≡ opened f) {line block line′ : List ℕ} {r : Reading} (x : NextLine line [] block line′ r) (hl : longest ≤ length line) where
   abbrev read : Read line 0 [] block line′ r
   read = x .read
 
@@ -86,7 +99,7 @@ module _ (reply out : List ℕ) (zero : reply ≡ replicate 4098 0) (ho : 4 * ro
   same-first = by-buffer x hl (λ (t : List ℕ). firstOf t (r .ended)) (λ (a b : List ℕ) (h : longest ≤ length a) (k : longest ≤ length b). long-first a b (r .ended) h k)
 
   -- reading failed in the first line
-  pub unread-first : r .failed ≡ true → Replayed reply out block reply out (record { reading = r; waiting = 0; written = true })
+  pub unread-first : r .failed ≡ true → Replayed reply out block lent reply out (record { reading = r; waiting = 0; written = true })
   unfolding bytesOf cut replayed
   unread-first f =
       let e : r .ended ≡ false = read .dry (read .failing f) .0 in
@@ -96,6 +109,8 @@ module _ (reply out : List ℕ) (zero : reply ≡ replicate 4098 0) (ho : 4 * ro
         unfinished = read .text;
         whole = read .whole ∙ ap (λ (t : Bool). read .text ++ (feed t ++ rest)) e;
         cut = refl;
+        numbers = stateOf (opened (firstOf [] false));
+        journals = rw f (blank (firstOf [] false));
         replies = rw f;
         prints = rw f;
         waits = rw f;
@@ -112,7 +127,7 @@ module _ (reply out : List ℕ) (zero : reply ≡ replicate 4098 0) (ho : 4 * ro
     made : (ls : List Line) (u : List ℕ) → firstOf (take (r .used) line′) (r .ended) ≡ firstIn ls → unread (r .failed) ls ≡ false
         → read .brought ≡ bytesOf ls ++ (u ++ rest) → linesOf (bytesOf ls) ≡ ls
         → (length (bytesOf ls) < endless → textOf (linesOf (read .brought)) ≡ openingText (firstIn ls))
-        → Replayed reply out block reply out′ (record { reading = r; waiting = q; written = true })
+        → Replayed reply out block lent reply out′ (record { reading = r; waiting = q; written = true })
     unfolding journalText
     made ls u same v whole cutting whole-text =
         let n : isGood (firstIn ls) ≡ false = ap isGood (sym same) ∙ g in
@@ -125,6 +140,8 @@ module _ (reply out : List ℕ) (zero : reply ≡ replicate 4098 0) (ho : 4 * ro
           unfinished = u;
           whole = whole;
           cut = cutting;
+          numbers = stateOf (opened (firstIn ls));
+          journals = blank (firstIn ls) ∙ sym (ap (λ (z : State). z .journal) (bad-state reply out ls (r .failed) v n));
           replies = sym (ap (λ (z : State). z .reply) (bad-state reply out ls (r .failed) v n));
           prints =
               p
@@ -140,7 +157,7 @@ module _ (reply out : List ℕ) (zero : reply ≡ replicate 4098 0) (ho : 4 * ro
           all = λ _ _ h. shown ∙ sym (whole-text h);
         }
 
-    ended : r .ended ≡ true → Replayed reply out block reply out′ (record { reading = r; waiting = q; written = true })
+    ended : r .ended ≡ true → Replayed reply out block lent reply out′ (record { reading = r; waiting = q; written = true })
     unfolding bytesOf cut
     ended e =
         let w : read .brought ≡ read .text ++ (10 ∷ rest) = read .whole ∙ ap (λ (t : Bool). read .text ++ (feed t ++ rest)) e in
@@ -166,7 +183,7 @@ module _ (reply out : List ℕ) (zero : reply ≡ replicate 4098 0) (ho : 4 * ro
       same : (t : List ℕ) → firstOf (take (r .used) line′) (r .ended) ≡ firstOf t false
       same t = ap (firstOf (take (r .used) line′)) e ∙ unended (take (r .used) line′) t
 
-      last : ltb 0 (r .used) ≡ true → Replayed reply out block reply out′ (record { reading = r; waiting = q; written = true })
+      last : ltb 0 (r .used) ≡ true → Replayed reply out block lent reply out′ (record { reading = r; waiting = q; written = true })
       unfolding bytesOf
       last u =
           let z : (read .text ++ []) ++ [] ≡ read .text = append-nil (read .text ++ []) ∙ append-nil (read .text) in
@@ -179,7 +196,7 @@ module _ (reply out : List ℕ) (zero : reply ≡ replicate 4098 0) (ho : 4 * ro
           (ap linesOf (w ∙ ap (λ (d : List ℕ). read .text ++ d) (dry (omega (arith, ap length z, h))) ∙ append-nil (read .text)) ∙ cutting)
           ∙ bad-text ((read .text, false) ∷ []) (never-good (read .text)))
 
-      missing : ltb 0 (r .used) ≡ false → Replayed reply out block reply out′ (record { reading = r; waiting = q; written = true })
+      missing : ltb 0 (r .used) ≡ false → Replayed reply out block lent reply out′ (record { reading = r; waiting = q; written = true })
       unfolding bytesOf cut
       missing u =
           let z : length (read .text) ≡ 0 = empty x hl u in
@@ -189,14 +206,14 @@ module _ (reply out : List ℕ) (zero : reply ≡ replicate 4098 0) (ho : 4 * ro
           (w ∙ ap (λ (d : List ℕ). read .text ++ d) (dry (omega arith)) ∙ append-nil (read .text) ∙ none (read .text) z)
           ∙ bad-text [] (never-good []))
 
-      unended-first : (t : Bool) → ltb 0 (r .used) ≡ t → Replayed reply out block reply out′ (record { reading = r; waiting = q; written = true })
+      unended-first : (t : Bool) → ltb 0 (r .used) ≡ t → Replayed reply out block lent reply out′ (record { reading = r; waiting = q; written = true })
       unended-first true u = last u
       unended-first false u = missing u
 
-    pub refused-first : Replayed reply out block reply out′ (record { reading = r; waiting = q; written = true })
+    pub refused-first : Replayed reply out block lent reply out′ (record { reading = r; waiting = q; written = true })
     refused-first = go (r .ended) refl
       where
-        go : (t : Bool) → r .ended ≡ t → Replayed reply out block reply out′ (record { reading = r; waiting = q; written = true })
+        go : (t : Bool) → r .ended ≡ t → Replayed reply out block lent reply out′ (record { reading = r; waiting = q; written = true })
         go true e = ended e
         go false e = unended-first e (ltb 0 (r .used)) refl
 
@@ -204,7 +221,8 @@ module _ (reply out : List ℕ) (zero : reply ≡ replicate 4098 0) (ho : 4 * ro
   module _ (g : isGood (firstOf (take (r .used) line′) (r .ended)) ≡ true) {j : Journal} {out₁ : List ℕ}
       (jo : j ≡ opened (firstOf (take (r .used) line′) (r .ended)))
       (p : out₁ ≡ printed out 0 (openingText (firstOf (take (r .used) line′) (r .ended))))
-      {block′ reply′ out′ : List ℕ} {e : Ending} (ran : Ran (state j reply out₁ 0 []) rest block′ reply′ out′ e) where
+      {block′ : List ℕ} {lent′ : Numbers → Journal} {reply′ out′ : List ℕ} {e : Ending}
+      (ran : Ran (state j reply out₁ 0 []) rest block′ lent′ reply′ out′ e) where
     fed : r .ended ≡ true
     fed = go (r .ended) refl
       where
@@ -261,7 +279,7 @@ module _ (reply out : List ℕ) (zero : reply ≡ replicate 4098 0) (ho : 4 * ro
         ∙ ap (λ (d : List ℕ). linesText (opened (firstOf (read .text) true)) d (ran .lines)) zero
         ∙ sym (good-text (read .text, true) (ran .lines) good)
 
-    pub good-first : Replayed reply out block′ reply′ out′ e
+    pub good-first : Replayed reply out block′ lent′ reply′ out′ e
     unfolding journalText
     good-first =
         record {
@@ -270,6 +288,8 @@ module _ (reply out : List ℕ) (zero : reply ≡ replicate 4098 0) (ho : 4 * ro
           unfinished = ran .unfinished;
           whole = good-whole;
           cut = good-cut;
+          numbers = ran .numbers;
+          journals = ran .journals ∙ sym (ap (λ (z : State). z .journal) stood);
           replies = ran .replies ∙ sym (ap (λ (z : State). z .reply) stood);
           prints = ran .prints ∙ sym (ap (λ (z : State). z .out) stood);
           waits = ran .waits ∙ sym (ap (λ (z : State). z .waiting) stood);

@@ -12,8 +12,8 @@ use Rattle.text.proofs.Printing.{length-kept, fits, fits-place, full-place}
 use Rattle.line_program.specs.declared.Reading.{Reading}
 use Rattle.line_program.specs.Reads.{left, feed, Read, NextLine}
 use Rattle.journal_prints.specs.Room.{room}
-use Rattle.journal_turns.specs.Turns.{longest, lineTurn}
-use Rattle.journal_turns.specs.declared.Journal.{Journal}
+use Rattle.journal_turns.specs.Turns.{Journal, longest, lineTurn}
+use Rattle.journal_turns.specs.declared.State.{State as Numbers}
 use Rattle.journal_text.specs.Texts.{lineText}
 use Rattle.journal_text.specs.Journals.{cut, linesOf, linesText}
 use Rattle.journal_text.proofs.Cutting.{lines as law, long-same}
@@ -87,10 +87,10 @@ pub record Closed (before : State) (had rest : List ℕ) (j : Journal) (reply ou
   pub given : v ≡ false → handed ≡ [] → ⊥
   pub long : r .more ≡ true → endless ≤ length (bytesOf lines)
 
-pub record Going (before : State) (had block reply out : List ℕ) (s : Step) (turns : ℕ) : Type 0 where
-  pub goes : s .reading .ended ≡ true → Open before had (left block (s .reading .from) (s .reading .until)) (s .journal) reply out (s .waiting) (s .written) turns
+pub record Going (before : State) (had block : List ℕ) (j′ : Journal) (reply out : List ℕ) (s : Step) (turns : ℕ) : Type 0 where
+  pub goes : s .reading .ended ≡ true → Open before had (left block (s .reading .from) (s .reading .until)) j′ reply out (s .waiting) (s .written) turns
   pub stops : s .reading .ended ≡ false
-      → Closed before had (left block (s .reading .from) (s .reading .until)) (s .journal) reply out (s .waiting) (s .written) (s .reading)
+      → Closed before had (left block (s .reading .from) (s .reading .until)) j′ reply out (s .waiting) (s .written) (s .reading)
 
 open-cut : {before : State} {had rest : List ℕ} {j : Journal} {reply out : List ℕ} {w : ℕ} {v : Bool} {turns : ℕ} (o : Open before had rest j reply out w v turns)
     → linesOf (bytesOf (o .lines)) ≡ o .lines
@@ -162,9 +162,9 @@ module _ {line had block after : List ℕ} {r : Reading} (x : NextLine line had 
 -- ---- a step
 
 -- what the contract of a step says
-abbrev Stepping : List ℕ → List ℕ → List ℕ → List ℕ → Journal → ℕ → List ℕ → List ℕ → List ℕ → List ℕ → Step → Type 0
-Stepping mid line reply out j w block′ line′ reply′ out′ s =
-    (s .journal ≡ stepOf (s .reading) line′ j reply out w .journal)
+abbrev Stepping : List ℕ → List ℕ → List ℕ → List ℕ → Journal → ℕ → List ℕ → List ℕ → Journal → List ℕ → List ℕ → Step → Type 0
+Stepping mid line reply out j w block′ line′ j′ reply′ out′ s =
+    (j′ ≡ stepOf (s .reading) line′ j reply out w .journal)
     × ((reply′ ≡ stepOf (s .reading) line′ j reply out w .reply)
     × ((out′ ≡ stepOf (s .reading) line′ j reply out w .out)
     × ((s .waiting ≡ stepOf (s .reading) line′ j reply out w .waiting)
@@ -175,7 +175,7 @@ Stepping mid line reply out j w block′ line′ reply′ out′ s =
 
 module _ {before : State} {had mid line reply out : List ℕ} {j : Journal} {w : ℕ} {v : Bool} {turns : ℕ}
     (o : Open before had mid j reply out w v turns) (hl : longest ≤ length line) (ho : 4 * room ≤ length out)
-    (s : Step) {block′ line′ reply′ out′ : List ℕ} (k : Stepping mid line reply out j w block′ line′ reply′ out′ s) where
+    (s : Step) {block′ line′ : List ℕ} {j′ : Journal} {reply′ out′ : List ℕ} (k : Stepping mid line reply out j w block′ line′ j′ reply′ out′ s) where
   abbrev read : Read line 0 mid block′ line′ (s .reading)
   read = k .1 .1 .1 .1 .1 .1 .read
 
@@ -202,7 +202,7 @@ module _ {before : State} {had mid line reply out : List ℕ} {j : Journal} {w :
     unfolding stepText lineText
     printing = rw (e, same-line (k .1 .1 .1 .1 .1 .1) hl j reply)
 
-    took-stood : state (s .journal) reply′ out′ (s .waiting) (o .handed ++ handedAfter out w) ≡ taken before (o .lines ++ (l ∷ []))
+    took-stood : state j′ reply′ out′ (s .waiting) (o .handed ++ handedAfter out w) ≡ taken before (o .lines ++ (l ∷ []))
     unfolding taking
     took-stood =
         same-state (o .handed ++ handedAfter out w)
@@ -217,7 +217,7 @@ module _ {before : State} {had mid line reply out : List ℕ} {j : Journal} {w :
     unfolding taking
     over = ap (λ (z : State). z .handed) stepped
 
-    took-text : put (state (s .journal) reply′ out′ (s .waiting) (o .handed ++ handedAfter out w))
+    took-text : put (state j′ reply′ out′ (s .waiting) (o .handed ++ handedAfter out w))
         ≡ linesText (before .journal) (before .reply) (o .lines ++ (l ∷ []))
     took-text =
         append-assoc (o .handed) (handedAfter out w) (take (s .waiting) out′)
@@ -245,13 +245,13 @@ module _ {before : State} {had mid line reply out : List ℕ} {j : Journal} {w :
     unfolding stepOf
     stayed = rw e
 
-    left-stood : state (s .journal) reply′ out′ (s .waiting) (o .handed) ≡ taken before (o .lines)
+    left-stood : state j′ reply′ out′ (s .waiting) (o .handed) ≡ taken before (o .lines)
     left-stood = rw (k .0, k .1 .0, k .1 .1 .0, k .1 .1 .1 .0, stayed) (o .stood)
 
     left-given : s .written ≡ false → o .handed ≡ [] → ⊥
     left-given f _ = apart (sym (k .1 .1 .1 .1 .1 .0 ho (ap (λ (z : State). z .handed) stayed)) ∙ f)
 
-    left-text : put (state (s .journal) reply′ out′ (s .waiting) (o .handed)) ≡ linesText (before .journal) (before .reply) (o .lines)
+    left-text : put (state j′ reply′ out′ (s .waiting) (o .handed)) ≡ linesText (before .journal) (before .reply) (o .lines)
     left-text = rw (k .1 .1 .0, k .1 .1 .1 .0, stayed) (o .text)
 
   sound : s .reading .ended ≡ true → s .reading .failed ≡ false
@@ -278,7 +278,7 @@ module _ {before : State} {had mid line reply out : List ℕ} {j : Journal} {w :
         ∙ ap (λ (t : Bool). o .lines ++ ((read .text, t) ∷ linesOf r)) (sym e)
         ∙ sym (append-assoc (o .lines) (l there ∷ []) (linesOf r))
 
-    gone : (turns′ : ℕ) → turns ≤ turns′ + 1 → Open before had rest (s .journal) reply′ out′ (s .waiting) (s .written) turns′
+    gone : (turns′ : ℕ) → turns ≤ turns′ + 1 → Open before had rest j′ reply′ out′ (s .waiting) (s .written) turns′
     gone turns′ h =
         record {
           brought = o .brought ++ read .brought;
@@ -302,7 +302,7 @@ module _ {before : State} {had mid line reply out : List ℕ} {j : Journal} {w :
 
   -- none did
   module _ (e : s .reading .ended ≡ false) where
-    failing : s .reading .failed ≡ true → Closed before had rest (s .journal) reply′ out′ (s .waiting) (s .written) (s .reading)
+    failing : s .reading .failed ≡ true → Closed before had rest j′ reply′ out′ (s .waiting) (s .written) (s .reading)
     failing f =
         let n : isLine (s .reading .failed) (s .reading .ended) (s .reading .used) ≡ false = rw f in
         record {
@@ -320,7 +320,7 @@ module _ {before : State} {had mid line reply out : List ℕ} {j : Journal} {w :
         }
 
     module _ (f : s .reading .failed ≡ false) where
-      ending : ltb 0 (s .reading .used) ≡ false → Closed before had rest (s .journal) reply′ out′ (s .waiting) (s .written) (s .reading)
+      ending : ltb 0 (s .reading .used) ≡ false → Closed before had rest j′ reply′ out′ (s .waiting) (s .written) (s .reading)
       ending u =
           let n : isLine (s .reading .failed) (s .reading .ended) (s .reading .used) ≡ false = rw (f, e, u) in
           let z : length (read .text) ≡ 0 = empty (k .1 .1 .1 .1 .1 .1) hl u in
@@ -338,7 +338,7 @@ module _ {before : State} {had mid line reply out : List ℕ} {j : Journal} {w :
             long = λ m. absurd (omega (arith, z, k .1 .1 .1 .1 .1 .1 .long e m));
           }
 
-      last : ltb 0 (s .reading .used) ≡ true → Closed before had rest (s .journal) reply′ out′ (s .waiting) (s .written) (s .reading)
+      last : ltb 0 (s .reading .used) ≡ true → Closed before had rest j′ reply′ out′ (s .waiting) (s .written) (s .reading)
       last u =
           let t : isLine (s .reading .failed) (s .reading .ended) (s .reading .used) ≡ true = rw (f, e, u) in
           record {
@@ -369,34 +369,34 @@ module _ {before : State} {had mid line reply out : List ℕ} {j : Journal} {w :
                 );
           }
 
-      stopped : Closed before had rest (s .journal) reply′ out′ (s .waiting) (s .written) (s .reading)
+      stopped : Closed before had rest j′ reply′ out′ (s .waiting) (s .written) (s .reading)
       stopped = go (ltb 0 (s .reading .used)) refl
         where
-          go : (t : Bool) → ltb 0 (s .reading .used) ≡ t → Closed before had rest (s .journal) reply′ out′ (s .waiting) (s .written) (s .reading)
+          go : (t : Bool) → ltb 0 (s .reading .used) ≡ t → Closed before had rest j′ reply′ out′ (s .waiting) (s .written) (s .reading)
           go true u = last u
           go false u = ending u
 
-  pub going : (turns′ : ℕ) → turns ≤ turns′ + 1 → Going before had block′ reply′ out′ s turns′
+  pub going : (turns′ : ℕ) → turns ≤ turns′ + 1 → Going before had block′ j′ reply′ out′ s turns′
   going turns′ h = record { goes = λ e. gone e turns′ h; stops = λ e. go e (s .reading .failed) refl }
     where
-      go : s .reading .ended ≡ false → (t : Bool) → s .reading .failed ≡ t → Closed before had rest (s .journal) reply′ out′ (s .waiting) (s .written) (s .reading)
+      go : s .reading .ended ≡ false → (t : Bool) → s .reading .failed ≡ t → Closed before had rest j′ reply′ out′ (s .waiting) (s .written) (s .reading)
       go e true f = failing e f
       go e false f = stopped e f
 
 -- ---- the run
 
-pub finished : {before : State} {had block reply out : List ℕ} {turns : ℕ} (s : Step) → Going before had block reply out s turns
-    → (s .reading .ended ≡ true → s .written ≡ true → turns ≡ 0)
-    → Ran before had block reply out (record { reading = s .reading; waiting = s .waiting; written = s .written })
-finished {before} {had} {block} {reply} {out} {turns} s g z = go (s .reading .ended) refl
+pub finished : {before : State} {had block reply out : List ℕ} {turns : ℕ} (lent : Numbers → Journal) (s : Step)
+    → Going before had block (lent (s .state)) reply out s turns → (s .reading .ended ≡ true → s .written ≡ true → turns ≡ 0)
+    → Ran before had block lent reply out (record { reading = s .reading; waiting = s .waiting; written = s .written })
+finished {before} {had} {block} {reply} {out} {turns} lent s g z = go (s .reading .ended) refl
   where
-    ends : (c : Closed before had (left block (s .reading .from) (s .reading .until)) (s .journal) reply out (s .waiting) (s .written) (s .reading)) (t : Bool)
+    ends : (c : Closed before had (left block (s .reading .from) (s .reading .until)) (lent (s .state)) reply out (s .waiting) (s .written) (s .reading)) (t : Bool)
         → s .reading .more ≡ t → s .reading .failed ≡ false → length (bytesOf (c .lines)) < endless
         → (s .reading .more ≡ false) × (c .unfinished ++ left block (s .reading .from) (s .reading .until) ≡ [])
     ends c true m f b = absurd (omega (arith, c .long m))
     ends c false m f b = (m, c .dry m f)
 
-    go : (t : Bool) → s .reading .ended ≡ t → Ran before had block reply out (record { reading = s .reading; waiting = s .waiting; written = s .written })
+    go : (t : Bool) → s .reading .ended ≡ t → Ran before had block lent reply out (record { reading = s .reading; waiting = s .waiting; written = s .written })
     go true e =
         let o = g .goes e in
         record {
@@ -405,6 +405,8 @@ finished {before} {had} {block} {reply} {out} {turns} s g z = go (s .reading .en
           unfinished = [];
           whole = o .whole;
           cut = open-cut o;
+          numbers = s .state;
+          journals = ap (λ (x : State). x .journal) (o .stood);
           replies = ap (λ (x : State). x .reply) (o .stood);
           prints = ap (λ (x : State). x .out) (o .stood);
           waits = ap (λ (x : State). x .waiting) (o .stood);
@@ -420,6 +422,8 @@ finished {before} {had} {block} {reply} {out} {turns} s g z = go (s .reading .en
           unfinished = c .unfinished;
           whole = c .whole;
           cut = c .cutting;
+          numbers = s .state;
+          journals = ap (λ (x : State). x .journal) (c .stood);
           replies = ap (λ (x : State). x .reply) (c .stood);
           prints = ap (λ (x : State). x .out) (c .stood);
           waits = ap (λ (x : State). x .waiting) (c .stood);

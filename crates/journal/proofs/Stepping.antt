@@ -12,8 +12,7 @@ use Rattle.text.specs.Printed.{printed, behind}
 use Rattle.text.proofs.Printing.{behind-within}
 use Rattle.line_program.specs.declared.Reading.{Reading}
 use Rattle.journal_prints.specs.Room.{room}
-use Rattle.journal_turns.specs.Turns.{lineTurn}
-use Rattle.journal_turns.specs.declared.Journal.{Journal}
+use Rattle.journal_turns.specs.Turns.{Journal, lineTurn}
 use Rattle.journal_text.specs.Texts.{lineText}
 use Rattle.journal.specs.Steps.{isLine, waitingAfter, handedAfter, State, state, taking, stepOf, stepText}
 

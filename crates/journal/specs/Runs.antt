@@ -9,6 +9,8 @@ use Rattle.prelude.specs.Choice.{pick}
 use Rattle.text.specs.Printed.{printed, behind}
 use Rattle.line_program.specs.Reads.{left, feed}
 use Rattle.journal_lines.specs.declared.First.{First}
+use Rattle.journal_turns.specs.Turns.{Journal}
+use Rattle.journal_turns.specs.declared.State.{State as Numbers}
 use Rattle.journal_text.specs.Texts.{firstOf, isGood, opened, openingText}
 use Rattle.journal_text.specs.Journals.{linesOf, linesText, textOf, journalText}
 use Rattle.journal.specs.declared.Ending.{Ending}
@@ -27,14 +29,17 @@ endless = 9223372036854775807
 
 -- The block had these bytes left. With those that reads brought they are the lines that were taken, then those of a line in which
 -- reading failed, then what the block has left: none is lost, none taken twice.
-pub record Ran (before : State) (had block reply out : List ℕ) (e : Ending) : Type 0 where
+pub record Ran (before : State) (had block : List ℕ) (lent : Numbers → Journal) (reply out : List ℕ) (e : Ending) : Type 0 where
   pub brought : List ℕ
   pub lines : List (List ℕ × Bool)
   pub unfinished : List ℕ
   pub whole : had ++ brought ≡ bytesOf lines ++ (unfinished ++ left block (e .reading .from) (e .reading .until))
   -- they are cut as the rule says (section 12.1)
   pub cut : linesOf (bytesOf lines) ≡ lines
-  -- each was taken on what the one before it left, and all that they print was handed over or waits
+  -- each was taken on what the one before it left: with some numbers what is lent is the journal behind them; and all that they print was
+  -- handed over or waits
+  pub numbers : Numbers
+  pub journals : lent numbers ≡ taken before lines .journal
   pub replies : reply ≡ taken before lines .reply
   pub prints : out ≡ taken before lines .out
   pub waits : e .waiting ≡ taken before lines .waiting
@@ -70,12 +75,14 @@ replayed failed reply out lines =
 
 -- The bytes that reads brought are the lines that were taken, then those of a line in which reading failed, then what the block has left.
 -- Behind a first line that is not good none is taken (section 12.4).
-pub record Replayed (reply out block reply′ out′ : List ℕ) (e : Ending) : Type 0 where
+pub record Replayed (reply out block : List ℕ) (lent : Numbers → Journal) (reply′ out′ : List ℕ) (e : Ending) : Type 0 where
   pub brought : List ℕ
   pub lines : List (List ℕ × Bool)
   pub unfinished : List ℕ
   pub whole : brought ≡ bytesOf lines ++ (unfinished ++ left block (e .reading .from) (e .reading .until))
   pub cut : linesOf (bytesOf lines) ≡ lines
+  pub numbers : Numbers
+  pub journals : lent numbers ≡ replayed (e .reading .failed) reply out lines .journal
   pub replies : reply′ ≡ replayed (e .reading .failed) reply out lines .reply
   pub prints : out′ ≡ replayed (e .reading .failed) reply out lines .out
   pub waits : e .waiting ≡ replayed (e .reading .failed) reply out lines .waiting

@@ -8,8 +8,7 @@ use Rattle.prelude.specs.Choice.{pick, both, either, no}
 use Rattle.text.specs.Printed.{printed, behind}
 use Rattle.line_program.specs.declared.Reading.{Reading}
 use Rattle.journal_prints.specs.Room.{room}
-use Rattle.journal_turns.specs.Turns.{lineTurn}
-use Rattle.journal_turns.specs.declared.Journal.{Journal}
+use Rattle.journal_turns.specs.Turns.{Journal, lineTurn}
 use Rattle.journal_text.specs.Texts.{lineText}
 
 -- whether a line was read: a line feed ended it, or some bytes stand before the input's end

@@ -7,10 +7,16 @@ ghost use lib.ListN.{length, take, replicate};
 ghost use mathlib.Core.List.{[], _++_};
 ghost use Rattle.line_program.specs.Reads.{left, NextLine};
 ghost use Rattle.journal_prints.specs.Room.{room};
-ghost use Rattle.journal_turns.specs.Turns.{longest};
+ghost use Rattle.ledger.specs.Ledger.{tablesOf, emptyLedger};
+ghost use Rattle.inbound.specs.Circuits.{noFrame, noAims};
+ghost use Rattle.journal_turns.specs.declared.State.{State as Numbers};
+ghost use Rattle.journal_turns.specs.Turns.{whole, longest};
 ghost use Rattle.journal.specs.Steps.{isLine, waitingAfter, state, stepOf, stepText};
 ghost use Rattle.journal.specs.Runs.{Ran, Replayed};
-use journal_turns::Journal;
+use frames::FrameBytes;
+use inbound::state::TargetBytes;
+use journal_turns::State;
+use ledger::Ledger;
 use line_program::Reading;
 
 // Room for the output lines of one line: four of 497 bytes.
@@ -25,7 +31,7 @@ pub struct Waiting {
 // Where the input stands behind a line, the journal, and the output that waits.
 pub struct Step {
     pub reading: Reading,
-    pub journal: Journal,
+    pub state: State,
     pub waiting: usize,
     pub written: bool,
 }
@@ -77,37 +83,52 @@ fn make_room(out: &[u8], waiting: usize) -> Waiting
 fn take_step(
     block: &mut [u8],
     line: &mut [u8],
+    connect: &mut FrameBytes,
+    targets: &mut TargetBytes,
+    sent: &mut FrameBytes,
+    ledger: &mut Ledger,
     reply: &mut [u8],
     out: &mut [u8],
     from: usize,
     until: usize,
-    j: Journal,
+    j: State,
     waiting: usize,
 ) -> Step
-    ensures journal { λ r. ⌜ r .journal ≡ stepOf (r .reading) (now (line .exit)) j (now (reply .entry)) (now (out .entry)) waiting .journal ⌝ }
-    ensures reply { λ r. ⌜ now (reply .exit) ≡ stepOf (r .reading) (now (line .exit)) j (now (reply .entry)) (now (out .entry)) waiting .reply ⌝ }
-    ensures out { λ r. ⌜ now (out .exit) ≡ stepOf (r .reading) (now (line .exit)) j (now (reply .entry)) (now (out .entry)) waiting .out ⌝ }
-    ensures waiting { λ r. ⌜ r .waiting ≡ stepOf (r .reading) (now (line .exit)) j (now (reply .entry)) (now (out .entry)) waiting .waiting ⌝ }
-    ensures whole { λ r. ⌜ (4 * room ≤ length (now (out .entry)) → stepOf (r .reading) (now (line .exit)) j (now (reply .entry)) (now (out .entry)) waiting .handed ++ take (r .waiting) (now (out .exit)) ≡ take waiting (now (out .entry)) ++ stepText (r .reading) (now (line .exit)) j (now (reply .entry))) ⌝ }
-    ensures written { λ r. ⌜ (4 * room ≤ length (now (out .entry)) → stepOf (r .reading) (now (line .exit)) j (now (reply .entry)) (now (out .entry)) waiting .handed ≡ [] → r .written ≡ true) ⌝ }
+    ensures journal { λ r. ⌜ whole (r .state) (now (connect .exit)) (now (targets .exit)) (tablesOf (now (ledger .exit))) (now (ledger .exit)) (now (sent .exit)) ≡ stepOf (r .reading) (now (line .exit)) (whole j (now (connect .entry)) (now (targets .entry)) (tablesOf (now (ledger .entry))) (now (ledger .entry)) (now (sent .entry))) (now (reply .entry)) (now (out .entry)) waiting .journal ⌝ }
+    ensures reply { λ r. ⌜ now (reply .exit) ≡ stepOf (r .reading) (now (line .exit)) (whole j (now (connect .entry)) (now (targets .entry)) (tablesOf (now (ledger .entry))) (now (ledger .entry)) (now (sent .entry))) (now (reply .entry)) (now (out .entry)) waiting .reply ⌝ }
+    ensures out { λ r. ⌜ now (out .exit) ≡ stepOf (r .reading) (now (line .exit)) (whole j (now (connect .entry)) (now (targets .entry)) (tablesOf (now (ledger .entry))) (now (ledger .entry)) (now (sent .entry))) (now (reply .entry)) (now (out .entry)) waiting .out ⌝ }
+    ensures waiting { λ r. ⌜ r .waiting ≡ stepOf (r .reading) (now (line .exit)) (whole j (now (connect .entry)) (now (targets .entry)) (tablesOf (now (ledger .entry))) (now (ledger .entry)) (now (sent .entry))) (now (reply .entry)) (now (out .entry)) waiting .waiting ⌝ }
+    ensures whole { λ r. ⌜ (4 * room ≤ length (now (out .entry)) → stepOf (r .reading) (now (line .exit)) (whole j (now (connect .entry)) (now (targets .entry)) (tablesOf (now (ledger .entry))) (now (ledger .entry)) (now (sent .entry))) (now (reply .entry)) (now (out .entry)) waiting .handed ++ take (r .waiting) (now (out .exit)) ≡ take waiting (now (out .entry)) ++ stepText (r .reading) (now (line .exit)) (whole j (now (connect .entry)) (now (targets .entry)) (tablesOf (now (ledger .entry))) (now (ledger .entry)) (now (sent .entry))) (now (reply .entry))) ⌝ }
+    ensures written { λ r. ⌜ (4 * room ≤ length (now (out .entry)) → stepOf (r .reading) (now (line .exit)) (whole j (now (connect .entry)) (now (targets .entry)) (tablesOf (now (ledger .entry))) (now (ledger .entry)) (now (sent .entry))) (now (reply .entry)) (now (out .entry)) waiting .handed ≡ [] → r .written ≡ true) ⌝ }
     ensures read { λ r. ⌜ NextLine (now (line .entry)) (left (now (block .entry)) from until) (now (block .exit)) (now (line .exit)) (r .reading) ⌝ }
 {
     let s = line_program::next_line(block, line, from, until);
     if is_line(s.failed, s.ended, s.used) {
         let used = s.used;
         let w = make_room(out, waiting);
-        let a = journal_text::answer_line(j, reply, &line[..used], s.ended, out, w.bytes);
-        let next = a.journal;
+        let a = journal_text::answer_line(
+            j,
+            connect,
+            targets,
+            sent,
+            ledger,
+            reply,
+            &line[..used],
+            s.ended,
+            out,
+            w.bytes,
+        );
+        let next = a.state;
         return Step {
             reading: s,
-            journal: next,
+            state: next,
             waiting: a.next,
             written: w.written,
         };
     }
     Step {
         reading: s,
-        journal: j,
+        state: j,
         waiting: waiting,
         written: true,
     }
@@ -125,27 +146,48 @@ pub struct Ending {
 fn run(
     block: &mut [u8],
     line: &mut [u8],
+    connect: &mut FrameBytes,
+    targets: &mut TargetBytes,
+    sent: &mut FrameBytes,
+    ledger: &mut Ledger,
     reply: &mut [u8],
     out: &mut [u8],
     first: Reading,
-    opened: Journal,
+    opened: State,
 ) -> Ending
     requires { ⌜ (longest ≤ length (now line)) × (4 * room ≤ length (now out)) ⌝ }
     ensures bound { λ r. ⌜ r .waiting ≤ length (now (out .entry)) ⌝ }
-    ensures ran { λ r. ⌜ Ran (state opened (now (reply .entry)) (now (out .entry)) 0 []) (left (now (block .entry)) (first .from) (first .until)) (now (block .exit)) (now (reply .exit)) (now (out .exit)) r ⌝ }
+    ensures ran { λ r. ⌜ Ran (state (whole opened (now (connect .entry)) (now (targets .entry)) (tablesOf (now (ledger .entry))) (now (ledger .entry)) (now (sent .entry))) (now (reply .entry)) (now (out .entry)) 0 []) (left (now (block .entry)) (first .from) (first .until)) (now (block .exit)) (λ (s : Numbers). whole s (now (connect .exit)) (now (targets .exit)) (tablesOf (now (ledger .exit))) (now (ledger .exit)) (now (sent .exit))) (now (reply .exit)) (now (out .exit)) r ⌝ }
 {
-    let mut s = take_step(block, line, reply, out, first.from, first.until, opened, 0);
+    let mut s = take_step(
+        block,
+        line,
+        connect,
+        targets,
+        sent,
+        ledger,
+        reply,
+        out,
+        first.from,
+        first.until,
+        opened,
+        0,
+    );
     let mut turns = u64::MAX;
     while 0 < turns && s.reading.ended && s.written {
-        let journal = s.journal;
+        let state = s.state;
         s = take_step(
             block,
             line,
+            connect,
+            targets,
+            sent,
+            ledger,
             reply,
             out,
             s.reading.from,
             s.reading.until,
-            journal,
+            state,
             s.waiting,
         );
         turns -= 1;
@@ -178,10 +220,19 @@ fn finish(out: &[u8], e: Ending) {
 }
 
 // The first line, and the others where it is good.
-fn replay(block: &mut [u8], line: &mut [u8], reply: &mut [u8], out: &mut [u8]) -> Ending
-    requires { ⌜ (longest ≤ length (now line)) × (4 * room ≤ length (now out)) × (now reply ≡ replicate 4098 0) ⌝ }
+fn replay(
+    block: &mut [u8],
+    line: &mut [u8],
+    connect: &mut FrameBytes,
+    targets: &mut TargetBytes,
+    sent: &mut FrameBytes,
+    ledger: &mut Ledger,
+    reply: &mut [u8],
+    out: &mut [u8],
+) -> Ending
+    requires { ⌜ (longest ≤ length (now line)) × (4 * room ≤ length (now out)) × (now reply ≡ replicate 4098 0) × (now connect ≡ noFrame) × (now targets ≡ noAims) × (now sent ≡ noFrame) × (now ledger ≡ replicate 963 0) × (tablesOf (now ledger) ≡ emptyLedger) ⌝ }
     ensures bound { λ r. ⌜ r .waiting ≤ length (now (out .entry)) ⌝ }
-    ensures replayed { λ r. ⌜ Replayed (now (reply .entry)) (now (out .entry)) (now (block .exit)) (now (reply .exit)) (now (out .exit)) r ⌝ }
+    ensures replayed { λ r. ⌜ Replayed (now (reply .entry)) (now (out .entry)) (now (block .exit)) (λ (s : Numbers). whole s (now (connect .exit)) (now (targets .exit)) (tablesOf (now (ledger .exit))) (now (ledger .exit)) (now (sent .exit))) (now (reply .exit)) (now (out .exit)) r ⌝ }
 {
     let s = line_program::next_line(block, line, 0, 0);
     if s.failed {
@@ -194,8 +245,19 @@ fn replay(block: &mut [u8], line: &mut [u8], reply: &mut [u8], out: &mut [u8]) -
     let used = s.used;
     let o = journal_text::open_journal(&line[..used], s.ended, out, 0);
     if o.good {
-        let opened = o.journal;
-        return run(block, line, reply, out, s, opened);
+        let opened = o.state;
+        return run(
+            block,
+            line,
+            connect,
+            targets,
+            sent,
+            ledger,
+            reply,
+            out,
+            s,
+            opened,
+        );
     }
     Ending {
         reading: s,
@@ -209,6 +271,20 @@ fn main() {
     let mut line = [0u8; 32768];
     let mut reply = [0u8; 4098];
     let mut out = io::large_buffer();
-    let e = replay(&mut block, &mut line, &mut reply, &mut out);
+    let mut connect = frames::blank();
+    let mut sent = frames::blank();
+    let none = candidates::Chosen::empty();
+    let mut targets = none.bytes;
+    let mut ledger = ledger::empty();
+    let e = replay(
+        &mut block,
+        &mut line,
+        &mut connect,
+        &mut targets,
+        &mut sent,
+        &mut ledger,
+        &mut reply,
+        &mut out,
+    );
     finish(&out, e);
 }

@@ -10,9 +10,7 @@ use Rattle.text.proofs.Printing.{Laid, laid-none, parts, then}
 use Rattle.text.specs.Decimal.{most}
 use Rattle.ids.specs.declared.ConnectionId.{ConnectionId}
 use Rattle.ids.specs.declared.StreamId.{StreamId}
-use Rattle.initiator.specs.declared.Framed.{Framed}
-use Rattle.initiator.specs.Sent.{frameCapacity}
-use Rattle.candidates.specs.declared.Chosen.{Chosen}
+use Rattle.frames.specs.Sent.{frameCapacity}
 use Rattle.candidates.specs.Selection.{capacity}
 use Rattle.journal_prints.specs.Outputs.{sendText, burstText}
 use Rattle.journal_prints.specs.Room.{room, isSend, isBurst}
@@ -22,12 +20,13 @@ use Rattle.journal_effects.specs.Effects.{messageOf, targetsOf}
 within : (n m : ℕ) (s : List ℕ) → length (take (min n m) s) ≤ m
 within n m s = omega (arith, length-take (min n m) s)
 
-pub send-short : (n : ℕ) (conn : ConnectionId) (stream : StreamId) (m : Framed) → n ≤ most → conn .0 ≤ most → stream .0 ≤ most
-    → length (sendText n conn stream (messageOf m)) ≤ room
-send-short n conn stream m hn hc hs = short (isSend n conn stream (messageOf m) hn hc hs (within (m .len) frameCapacity (m .bytes)))
+pub send-short : (n : ℕ) (conn : ConnectionId) (stream : StreamId) (len : ℕ) (sent : List ℕ) → n ≤ most → conn .0 ≤ most → stream .0 ≤ most
+    → length (sendText n conn stream (messageOf len sent)) ≤ room
+send-short n conn stream len sent hn hc hs = short (isSend n conn stream (messageOf len sent) hn hc hs (within len frameCapacity sent))
 
-pub burst-short : (n times payload : ℕ) (t : Chosen) → n ≤ most → times ≤ most → payload ≤ most → length (burstText n times payload (targetsOf t)) ≤ room
-burst-short n times payload t hn ht hp = short (isBurst n times payload (targetsOf t) hn ht hp (within (t .len) capacity (t .bytes)))
+pub burst-short : (n times payload len : ℕ) (aims : List ℕ) → n ≤ most → times ≤ most → payload ≤ most
+    → length (burstText n times payload (targetsOf len aims)) ≤ room
+burst-short n times payload len aims hn ht hp = short (isBurst n times payload (targetsOf len aims) hn ht hp (within len capacity aims))
 
 pub laid-printed : (o : List ℕ) (p : ℕ) → o ≡ printed o p []
 laid-printed o p = parts (laid-none o p) .0

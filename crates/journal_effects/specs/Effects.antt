@@ -4,22 +4,21 @@ use mathlib.Core.Bool.{Bool, true, false}
 use mathlib.Core.List.{List, [], _++_}
 use lib.ListN.{take}
 use Rattle.prelude.specs.Choice.{pick, both}
-use Rattle.candidates.specs.declared.Chosen.{Chosen}
-use Rattle.initiator.specs.declared.Framed.{Framed}
 use Rattle.candidates.specs.Selection.{capacity}
-use Rattle.initiator.specs.Sent.{frameCapacity}
-use Rattle.inbound.specs.declared.Effect.{Effect}
-use Rattle.inbound.specs.declared.Effect.the-variants.{Nothing, Path, Burst, Upgrade, Close, Send, Reset, Open}
+use Rattle.frames.specs.Sent.{frameCapacity}
+use Rattle.vocabulary.specs.declared.Effect.{Effect}
+use Rattle.vocabulary.specs.declared.Effect.the-variants.{Nothing, Path, Burst, Upgrade, Close, Send, Reset, Open}
 use Rattle.journal_prints.specs.Outputs.{noneText, pathText, openText, sendText, resetText, burstText, closeText, upgradeText}
 use Rattle.journal_effects.specs.declared.Effects.{Effects}
 
--- the message's bytes, its frame length in front; of a message that would be longer than any, as many as the longest has
-abbrev pub messageOf : Framed → List ℕ
-messageOf m = take (min (m .len) frameCapacity) (m .bytes)
+-- so many of the bytes lent for the message, its frame length in front; of a message that would be longer than any, as many as the
+-- longest has
+abbrev pub messageOf : ℕ → List ℕ → List ℕ
+messageOf len sent = take (min len frameCapacity) sent
 
--- the target list likewise
-abbrev pub targetsOf : Chosen → List ℕ
-targetsOf t = take (min (t .len) capacity) (t .bytes)
+-- of those of the target list likewise
+abbrev pub targetsOf : ℕ → List ℕ → List ℕ
+targetsOf len aims = take (min len capacity) aims
 
 -- the line of an effect; none for the effect that is missing
 abbrev pub effectText : ℕ → List ℕ → List ℕ → Effect → List ℕ
@@ -42,16 +41,17 @@ isMissing (Send conn stream) = false
 isMissing (Reset conn stream) = false
 isMissing (Open conn stream) = false
 
-abbrev pub lineOf : ℕ → Effects → Effect → List ℕ
-lineOf n e effect = effectText n (messageOf (e .message)) (targetsOf (e .targets)) effect
+abbrev pub lineOf : ℕ → Effects → (sent aims : List ℕ) → Effect → List ℕ
+lineOf n e sent aims effect = effectText n (messageOf (e .message) sent) (targetsOf (e .targets) aims) effect
 
 -- a line for each effect, in order
-unfoldable pub linesText : ℕ → Effects → List ℕ
-linesText n e = lineOf n e (e .first) ++ lineOf n e (e .second) ++ lineOf n e (e .third) ++ lineOf n e (e .fourth)
+unfoldable pub linesText : ℕ → Effects → (sent aims : List ℕ) → List ℕ
+linesText n e sent aims =
+    lineOf n e sent aims (e .first) ++ lineOf n e sent aims (e .second) ++ lineOf n e sent aims (e .third) ++ lineOf n e sent aims (e .fourth)
 
 unfoldable pub noEffect : Effects → Bool
 noEffect e = both (isMissing (e .first)) (both (isMissing (e .second)) (both (isMissing (e .third)) (isMissing (e .fourth))))
 
 -- the line `none` where there is no effect
-unfoldable pub effectsText : ℕ → Effects → List ℕ
-effectsText n e = pick (noEffect e) (noneText n) (linesText n e)
+unfoldable pub effectsText : ℕ → Effects → (sent aims : List ℕ) → List ℕ
+effectsText n e sent aims = pick (noEffect e) (noneText n) (linesText n e sent aims)

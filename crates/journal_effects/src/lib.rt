@@ -1,27 +1,27 @@
 // What the journal prints of a circuit's answer: an output line for each effect, in order, or the line `none`.
-use candidates::Chosen;
+use frames::FrameBytes;
 use ids::ConnectionId;
 use ids::StreamId;
-use inbound::Effect;
-use initiator::Framed;
+use inbound::state::TargetBytes;
+use vocabulary::Effect;
 ghost use mathlib.Core.Path.{_≡_};
 ghost use Prim.Native.Nat.{_*_, _≤_, min};
 ghost use lib.ListN.{length, take};
 ghost use Rattle.text.specs.Printed.{printed, behind};
 ghost use Rattle.journal_prints.specs.Outputs.{sendText, burstText};
-ghost use Rattle.initiator.specs.Sent.{frameCapacity};
+ghost use Rattle.frames.specs.Sent.{frameCapacity};
 ghost use Rattle.candidates.specs.Selection.{capacity};
 ghost use Rattle.journal_prints.specs.Room.{room};
 ghost use Rattle.journal_effects.specs.Effects.{messageOf, targetsOf, effectText, isMissing, noEffect, linesText, effectsText};
 
-// `message` is what is sent, `targets` where the burst goes.
+// `message` is how many bytes are sent, `targets` how many are those of the burst's targets; the bytes are lent.
 pub struct Effects {
     pub first: Effect,
     pub second: Effect,
     pub third: Effect,
     pub fourth: Effect,
-    pub message: Framed,
-    pub targets: Chosen,
+    pub message: usize,
+    pub targets: usize,
 }
 
 // A circuit may say that its message is longer than the message's bytes.
@@ -37,7 +37,7 @@ fn put_message(
     ensures bytes { λ r. ⌜ now (out .exit) ≡ printed (now (out .entry)) at (sendText n conn stream (take (min len frameCapacity) (now (bytes .entry)))) ⌝ }
     ensures place { λ r. ⌜ r ≡ behind (now (out .entry)) at (sendText n conn stream (take (min len frameCapacity) (now (bytes .entry)))) ⌝ }
 {
-    let size = text::least(len, initiator::FRAME_CAPACITY);
+    let size = text::least(len, frames::FRAME_CAPACITY);
     if bytes.len() < size {
         return journal_prints::put_send(n, conn, stream, bytes, out, at);
     }
@@ -67,14 +67,16 @@ fn put_targets(
 fn put_effect(
     n: u64,
     effect: Effect,
-    message: Framed,
-    targets: Chosen,
+    sent: &FrameBytes,
+    message: usize,
+    aims: &TargetBytes,
+    targets: usize,
     out: &mut [u8],
     at: usize,
 ) -> usize
-    ensures bytes { λ r. ⌜ now (out .exit) ≡ printed (now (out .entry)) at (effectText n (messageOf message) (targetsOf targets) effect) ⌝ }
-    ensures place { λ r. ⌜ r ≡ behind (now (out .entry)) at (effectText n (messageOf message) (targetsOf targets) effect) ⌝ }
-    ensures short { λ r. ⌜ length (effectText n (messageOf message) (targetsOf targets) effect) ≤ room ⌝ }
+    ensures bytes { λ r. ⌜ now (out .exit) ≡ printed (now (out .entry)) at (effectText n (messageOf message (now (sent .entry))) (targetsOf targets (now (aims .entry))) effect) ⌝ }
+    ensures place { λ r. ⌜ r ≡ behind (now (out .entry)) at (effectText n (messageOf message (now (sent .entry))) (targetsOf targets (now (aims .entry))) effect) ⌝ }
+    ensures short { λ r. ⌜ length (effectText n (messageOf message (now (sent .entry))) (targetsOf targets (now (aims .entry))) effect) ≤ room ⌝ }
 {
     match effect {
         Effect::Nothing => at,
@@ -84,9 +86,7 @@ fn put_effect(
         }
         Effect::Burst { times, payload } => {
             text::in_range(n, times, payload);
-            let bytes = targets.bytes;
-            let len = targets.len;
-            put_targets(n, times, payload, &bytes, len, out, at)
+            put_targets(n, times, payload, aims, targets, out, at)
         }
         Effect::Upgrade { peer, old, new } => {
             text::in_range(peer.0, old.0, new.0);
@@ -98,9 +98,7 @@ fn put_effect(
         }
         Effect::Send { conn, stream } => {
             text::in_range(n, conn.0, stream.0);
-            let bytes = message.bytes;
-            let len = message.len;
-            put_message(n, conn, stream, &bytes, len, out, at)
+            put_message(n, conn, stream, sent, message, out, at)
         }
         Effect::Reset { conn, stream } => {
             text::in_range(n, conn.0, stream.0);
@@ -147,10 +145,17 @@ fn is_empty(effects: Effects) -> bool
     false
 }
 
-fn put_lines(n: u64, effects: Effects, out: &mut [u8], at: usize) -> usize
-    ensures bytes { λ r. ⌜ now (out .exit) ≡ printed (now (out .entry)) at (linesText n effects) ⌝ }
-    ensures place { λ r. ⌜ r ≡ behind (now (out .entry)) at (linesText n effects) ⌝ }
-    ensures short { λ r. ⌜ length (linesText n effects) ≤ 4 * room ⌝ }
+fn put_lines(
+    n: u64,
+    effects: Effects,
+    sent: &FrameBytes,
+    aims: &TargetBytes,
+    out: &mut [u8],
+    at: usize,
+) -> usize
+    ensures bytes { λ r. ⌜ now (out .exit) ≡ printed (now (out .entry)) at (linesText n effects (now (sent .entry)) (now (aims .entry))) ⌝ }
+    ensures place { λ r. ⌜ r ≡ behind (now (out .entry)) at (linesText n effects (now (sent .entry)) (now (aims .entry))) ⌝ }
+    ensures short { λ r. ⌜ length (linesText n effects (now (sent .entry)) (now (aims .entry))) ≤ 4 * room ⌝ }
 {
     let first = effects.first;
     let second = effects.second;
@@ -158,19 +163,27 @@ fn put_lines(n: u64, effects: Effects, out: &mut [u8], at: usize) -> usize
     let fourth = effects.fourth;
     let message = effects.message;
     let targets = effects.targets;
-    let p = put_effect(n, first, message, targets, out, at);
-    let p = put_effect(n, second, message, targets, out, p);
-    let p = put_effect(n, third, message, targets, out, p);
-    put_effect(n, fourth, message, targets, out, p)
+    let p = put_effect(n, first, sent, message, aims, targets, out, at);
+    let p = put_effect(n, second, sent, message, aims, targets, out, p);
+    let p = put_effect(n, third, sent, message, aims, targets, out, p);
+    put_effect(n, fourth, sent, message, aims, targets, out, p)
 }
 
-pub fn put_effects(n: u64, effects: Effects, out: &mut [u8], at: usize) -> usize
-    ensures bytes { λ r. ⌜ now (out .exit) ≡ printed (now (out .entry)) at (effectsText n effects) ⌝ }
-    ensures place { λ r. ⌜ r ≡ behind (now (out .entry)) at (effectsText n effects) ⌝ }
-    ensures short { λ r. ⌜ length (effectsText n effects) ≤ 4 * room ⌝ }
+// `sent` has the message's bytes, `aims` those of the targets.
+pub fn put_effects(
+    n: u64,
+    effects: Effects,
+    sent: &FrameBytes,
+    aims: &TargetBytes,
+    out: &mut [u8],
+    at: usize,
+) -> usize
+    ensures bytes { λ r. ⌜ now (out .exit) ≡ printed (now (out .entry)) at (effectsText n effects (now (sent .entry)) (now (aims .entry))) ⌝ }
+    ensures place { λ r. ⌜ r ≡ behind (now (out .entry)) at (effectsText n effects (now (sent .entry)) (now (aims .entry))) ⌝ }
+    ensures short { λ r. ⌜ length (effectsText n effects (now (sent .entry)) (now (aims .entry))) ≤ 4 * room ⌝ }
 {
     if is_empty(effects) {
         return journal_prints::put_none(n, out, at);
     }
-    put_lines(n, effects, out, at)
+    put_lines(n, effects, sent, aims, out, at)
 }

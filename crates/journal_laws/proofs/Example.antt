@@ -8,7 +8,7 @@ use Rattle.text.specs.Words.{ascii, begins, isWord, lengthBefore}
 use Rattle.fields.specs.Values.{maybeOf, pairOf}
 use Rattle.fields.specs.Fields.{valueAt, numberAt, choiceAt, maybeAt, pairAt, bytesAt}
 use Rattle.fields.specs.Line.{number, choice, maybe, pair, bytes, ends}
-use Rattle.budget.specs.Budget.{armed, mayBegin, oneMore, begun, withExchange, ended, windowEnd, upgradeDue, dueAt}
+use Rattle.budget.specs.Budget.{armed, mayBegin, oneMore, begun, withExchange, ended, windowEnd, upgradeDue, dueAt, nextDeadline}
 use Rattle.schedule.specs.Instants.{halfOf, startOf, upto, instants, countIf, countTo}
 use Rattle.schedule.specs.Schedule.{ahead, without, timesOf, dueOf, openedOf}
 use Rattle.wire.specs.Frame.{frameFrom}
@@ -17,18 +17,25 @@ use Rattle.wire.specs.Lists.{along, listed}
 use Rattle.message.specs.Fields.{fieldOf}
 use Rattle.message.specs.Message.{scan}
 use Rattle.message.specs.Encoding.{addressFields}
-use Rattle.initiator.specs.Gathering.{gathering}
-use Rattle.initiator.specs.Sent.{syncFrame}
+use Rattle.frames.specs.Gathering.{gathering}
+use Rattle.frames.specs.Sent.{syncFrame, ownConnect}
 use Rattle.address.specs.Multiaddr.{bigEndian, hasForm, parsed}
 use Rattle.address.specs.Words.{globalUnicast4, mayBeTarget}
 use Rattle.candidates.specs.Entries.{count, only}
 use Rattle.candidates.specs.Selection.{selected, bounded, room, once, own}
-use Rattle.rows.specs.Rows.{padded, tableOf, such}
+use Rattle.rows.specs.Rows.{such}
 use Rattle.ledger.specs.Ledger.{emptyLedger, refusesPunches}
-use Rattle.inbound.specs.Answers.{noMessage, noTargets, silence, eventOf, resetOf, burstOf, sendingOf, answerOf, quietOf}
+use Rattle.inbound.specs.State.{inPhase, exchangingOf, punchingOf}
+use Rattle.inbound.specs.Decisions.{eventOf, silence, resetOf, burstOf, sendingOf, decidedOf, quietOf}
+use Rattle.inbound.specs.Refusals.{inUse, checkOf}
+use Rattle.inbound.specs.Rounds.{isLive, openRound}
+use Rattle.inbound.specs.Ticks.{tickPunching}
+use Rattle.inbound.specs.Ups.{announced, connectedOf, upAt}
+use Rattle.inbound.specs.Inputs.{closing, inExchange, writeOf, firstInput, roundTrip, windowOf, openWindow, exchangeInput, awaitsIn}
 use Rattle.inbound.specs.Brought.{broughtBy}
-use Rattle.inbound.specs.Circuit.{inPhase, exchangingOf, isLive, openRound, tickPunching, inUse, checkOf, announced, closing, inExchange, writeOf, firstInput, roundTrip, punchingOf, windowOf, openWindow, begunOf, startedOf, upOf, tickOf}
-use Rattle.inbound.specs.Input.{ownOf, targetsFrom, dataInput, exchangeInput, inputOf}
+use Rattle.inbound.specs.Replies.{targetsFrom, peekedOf}
+use Rattle.inbound.specs.Carried.{lengthOf, sentAfter, ledgerAfter, opens, connectAfter, framedBy, targetsAfter}
+use Rattle.inbound.specs.Calls.{begunOf, startedOf, upIn, upOf, tickIn, tickOf, hearing, inputIn, inputOf, bufferAfter}
 use Rattle.journal_prints.specs.Outputs.{withCommas, targetsText}
 use Rattle.journal_text.specs.Texts.{firstOf, opened, lineText}
 use Rattle.journal_text.specs.Journals.{cut, linesText, opening, journalText}
@@ -40,7 +47,7 @@ use Rattle.journal_effects.specs.Effects as effects
 use Rattle.journal_turns.specs.Turns as turns
 
 pub example : journalText input ≡ printed
-unfolding plus digitsFrom decimalOf digitsOf isHexadecimal bytesOf hexadecimal begins isWord lengthBefore maybeOf pairOf valueAt numberAt choiceAt maybeAt pairAt bytesAt number choice maybe pair bytes ends armed mayBegin oneMore begun withExchange ended windowEnd upgradeDue dueAt halfOf startOf upto instants countIf countTo ahead without timesOf dueOf openedOf schedule.windowOf frameFrom valueOf spanOf varintOf groups along listed fieldOf scan addressFields gathering syncFrame bigEndian hasForm parsed globalUnicast4 mayBeTarget count only selected bounded room once own padded tableOf such emptyLedger refusesPunches noMessage noTargets silence eventOf resetOf burstOf sendingOf answerOf quietOf broughtBy inPhase exchangingOf isLive openRound tickPunching inUse checkOf announced closing inExchange writeOf firstInput roundTrip punchingOf windowOf openWindow begunOf startedOf upOf tickOf ownOf targetsFrom dataInput exchangeInput inputOf line.timed line.settled line.heard line.answered line.connected line.settingsOf line.startOf line.upOf line.inputLine line.tickOf line.lineOf part.timesOf part.othersAt part.kindAt part.inputOf part.kinded part.inputAt part.answersAt part.connectionAt withCommas targetsText effects.linesText effects.noEffect effects.effectsText turns.newJournal turns.counted turns.withState turns.started turns.noEffects turns.silent turns.effectsOf turns.hostOf turns.startTurn turns.upTurn turns.inputTurn turns.tickTurn turns.turnOf turns.read turns.lineTurn firstOf opened lineText cut linesText opening journalText input
+unfolding plus digitsFrom decimalOf digitsOf isHexadecimal bytesOf hexadecimal begins isWord lengthBefore maybeOf pairOf valueAt numberAt choiceAt maybeAt pairAt bytesAt number choice maybe pair bytes ends armed mayBegin oneMore begun withExchange ended windowEnd upgradeDue dueAt nextDeadline halfOf startOf upto instants countIf countTo ahead without timesOf dueOf openedOf schedule.windowOf frameFrom valueOf spanOf varintOf groups along listed fieldOf scan addressFields gathering syncFrame ownConnect bigEndian hasForm parsed globalUnicast4 mayBeTarget count only selected bounded room once own such emptyLedger refusesPunches inPhase exchangingOf punchingOf eventOf silence resetOf burstOf sendingOf decidedOf quietOf inUse checkOf isLive openRound tickPunching announced connectedOf upAt closing inExchange writeOf firstInput roundTrip windowOf openWindow exchangeInput awaitsIn broughtBy targetsFrom peekedOf lengthOf sentAfter ledgerAfter opens connectAfter framedBy targetsAfter begunOf startedOf upIn upOf tickIn tickOf hearing inputIn inputOf bufferAfter line.timed line.settled line.heard line.answered line.connected line.settingsOf line.startOf line.upOf line.inputLine line.tickOf line.lineOf part.timesOf part.othersAt part.kindAt part.inputOf part.kinded part.inputAt part.answersAt part.connectionAt withCommas targetsText effects.linesText effects.noEffect effects.effectsText turns.newJournal turns.counted turns.started turns.noEffects turns.silent turns.effectsOf turns.hostOf turns.startTurn turns.upTurn turns.inputTurn turns.tickTurn turns.turnOf turns.read turns.lineTurn firstOf opened lineText cut linesText opening journalText input
 example = refl
 
 pub nothing : journalText [] ≡ ascii "n=0 out=refused why=11\n"

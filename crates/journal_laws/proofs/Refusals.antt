@@ -8,25 +8,22 @@ use Rattle.prelude.specs.Choice.{pick, both, no}
 use Rattle.refusal.specs.declared.Refusal.{Refusal}
 use Rattle.refusal.specs.declared.Refusal.the-variants.{NotStarted}
 use Rattle.path.specs.declared.DialPurpose.the-variants.{Punch}
-use Rattle.ledger.specs.declared.PathLedger.{PathLedger}
-use Rattle.ledger.specs.declared.Outcome.{Outcome as Recording}
-use Rattle.ledger.specs.declared.Outcome.the-variants as recording
 use Rattle.ledger.specs.declared.Answer.{Answer as Naming}
 use Rattle.ledger.specs.declared.Answer.the-variants as name
-use Rattle.ledger.specs.Ledger.{dialStarted, attributed}
-use Rattle.inbound.specs.declared.InboundCircuit.{InboundCircuit}
-use Rattle.inbound.specs.declared.Outcome.{Outcome}
-use Rattle.inbound.specs.declared.Outcome.the-variants as outcome
-use Rattle.inbound.specs.declared.Answer.{Answer}
-use Rattle.inbound.specs.Circuit.{startedOf, upOf, tickOf}
-use Rattle.inbound.specs.Input as circuit
+use Rattle.ledger.specs.Ledger.{PathLedger, dialStarted, attributed}
+use Rattle.vocabulary.specs.declared.Host.{Host}
+use Rattle.vocabulary.specs.declared.Outcome.{Outcome}
+use Rattle.vocabulary.specs.declared.Outcome.the-variants as outcome
+use Rattle.inbound.specs.declared.state.Core.{Core}
+use Rattle.inbound.specs.declared.decision.Decision.{Decision}
+use Rattle.inbound.specs.Calls.{startedOf, upOf, tickOf, wroteOf, downOf}
+use Rattle.inbound.specs.Circuits.{answerOf, decidedAt, inputAnswer, inputBuffer}
 use Rattle.history.specs.Calls.{isRefused, stepOf}
 use Rattle.history.specs.Calls as history
 use Rattle.history.proofs.Refusals.{refused-changes-nothing}
 use Rattle.journal_lines.specs.declared.Line.{Line}
 use Rattle.journal_lines.specs.declared.Line.the-variants.{Start, Up, Input, Tick, Wrote, Down, Dial, Forget, Attribute, Unknown}
-use Rattle.journal_turns.specs.Turns.{silent, refused, naming, answered, digitsBytes, hostOf, inputOf, startedBy, startTurn, upTurn, inputTurn, tickTurn, wroteTurn, downTurn, dialedBy, dialTurn, forgetTurn, claimFor, namedBy, attributeTurn, Taken, apart, needsStart, callTurn, turnOf, counted, read, lineTurn}
-use Rattle.journal_turns.specs.declared.Journal.{Journal}
+use Rattle.journal_turns.specs.Turns.{Journal, silent, refused, naming, Leaves, settled, digitsBytes, hostOf, inputOf, startedBy, startTurn, upTurn, inputTurn, tickTurn, wroteTurn, downTurn, dialedBy, dialTurn, forgetTurn, claimFor, namedBy, attributeTurn, Taken, apart, needsStart, callTurn, turnOf, counted, read, lineTurn}
 use Rattle.journal_turns.specs.declared.Said.the-variants as said
 use Rattle.journal_laws.specs.Laws.{RefusedChangesNothing}
 
@@ -38,25 +35,25 @@ unfolding refused
 early j reply = (refl, refl)
 
 module _ (j : Journal) (why : Refusal) where
-  started-left : (c : InboundCircuit) (o : Outcome) → startedBy j c o .said ≡ said.Refused why → startedBy j c o .journal ≡ j
+  started-left : (c : Core) (o : Outcome) → startedBy j c o .said ≡ said.Refused why → startedBy j c o .journal ≡ j
   unfolding silent refused
   started-left c outcome.Accepted e = let z : _≡_ {A = ℕ} 0 1 = cc in absurd (omega arith)
   started-left c (outcome.Refused w) e = refl
 
-  answered-left : (a : Answer) (l : PathLedger) (o : Outcome) → answered j a l o .said ≡ said.Refused why → answered j a l o .journal ≡ j
+  settled-left : (d : Decision) (x : Leaves) (o : Outcome) → settled j d x o .said ≡ said.Refused why → settled j d x o .journal ≡ j
   unfolding refused
-  answered-left a l outcome.Accepted e = let z : _≡_ {A = ℕ} 0 1 = cc in absurd (omega arith)
-  answered-left a l (outcome.Refused w) e = refl
+  settled-left d x outcome.Accepted e = let z : _≡_ {A = ℕ} 0 1 = cc in absurd (omega arith)
+  settled-left d x (outcome.Refused w) e = refl
 
-  answered-refused : (a : Answer) (l : PathLedger) (o : Outcome) → answered j a l o .said ≡ said.Refused why → isRefused o ≡ true
+  settled-refused : (d : Decision) (x : Leaves) (o : Outcome) → settled j d x o .said ≡ said.Refused why → isRefused o ≡ true
   unfolding refused
-  answered-refused a l outcome.Accepted e = let z : _≡_ {A = ℕ} 0 1 = cc in absurd (omega arith)
-  answered-refused a l (outcome.Refused w) e = refl
+  settled-refused d x outcome.Accepted e = let z : _≡_ {A = ℕ} 0 1 = cc in absurd (omega arith)
+  settled-refused d x (outcome.Refused w) e = refl
 
-  dialed-left : (l : PathLedger) (o : Recording) → dialedBy j l o .said ≡ said.Refused why → dialedBy j l o .journal ≡ j
+  dialed-left : (l : PathLedger) (o : Outcome) → dialedBy j l o .said ≡ said.Refused why → dialedBy j l o .journal ≡ j
   unfolding silent refused
-  dialed-left l recording.Accepted e = let z : _≡_ {A = ℕ} 0 1 = cc in absurd (omega arith)
-  dialed-left l (recording.Refused w) e = refl
+  dialed-left l outcome.Accepted e = let z : _≡_ {A = ℕ} 0 1 = cc in absurd (omega arith)
+  dialed-left l (outcome.Refused w) e = refl
 
   named-left : (l : PathLedger) (n : Naming) → namedBy j l n .said ≡ said.Refused why → namedBy j l n .journal ≡ j
   unfolding naming refused
@@ -68,29 +65,34 @@ module _ (j : Journal) (why : Refusal) where
   never e = let z : _≡_ {A = ℕ} 0 1 = cc in absurd (omega arith)
 
   call-left : (line reply : List ℕ) (call : Line) → callTurn line j reply call .turn .said ≡ said.Refused why → Left j reply (callTurn line j reply call)
-  unfolding silent refused startTurn upTurn inputTurn tickTurn wroteTurn downTurn dialTurn forgetTurn attributeTurn stepOf
+  unfolding silent refused startTurn upTurn inputTurn tickTurn wroteTurn downTurn dialTurn forgetTurn attributeTurn inputAnswer inputBuffer answerOf stepOf
   call-left line reply (Start at source relay conn) e = (started-left _ (startedOf source relay conn (j .settings) at .outcome) e, refl)
   call-left line reply (Up at peer conn relayed l o pending own) e =
-      let a : Answer = upOf (j .circuit) (j .ledger) (hostOf at l o (digitsBytes line own)) peer conn relayed in
-      (answered-left a (a .ledger) (a .outcome) e, refl)
+      let d : Decision = upOf (j .circuit .core) (hostOf at l o) (digitsBytes line own) peer conn relayed in
+      (settled-left d _ (d .outcome) e, refl)
   call-left line reply (Input at stream k bytes l o pending own) e =
-      let h = hostOf at l o (digitsBytes line own) in
-      let d = circuit.inputOf (j .circuit) (j .ledger) h reply stream (inputOf k) (digitsBytes line bytes) pending in (
-        answered-left (d .answer) (d .answer .ledger) (d .answer .outcome) e,
-        refused-changes-nothing (j .circuit) (history.input (j .ledger) reply h stream (inputOf k) (digitsBytes line bytes) pending)
-            (answered-refused (d .answer) (d .answer .ledger) (d .answer .outcome) e)
+      let h : Host = hostOf at l o in
+      let d : Decision = decidedAt (j .circuit) (j .ledger) h (digitsBytes line own) reply stream (inputOf k) (digitsBytes line bytes) pending in (
+        settled-left d _ (d .outcome) e,
+        refused-changes-nothing (j .circuit)
+            (history.input (j .ledger) reply h (digitsBytes line own) stream (inputOf k) (digitsBytes line bytes) pending)
+            (settled-refused d _ (d .outcome) e)
             .lent
             .1,
       )
   call-left line reply (Tick at l o own) e =
-      let a : Answer = tickOf (j .circuit) (j .ledger) (hostOf at l o (digitsBytes line own)) in
-      (answered-left a _ (a .outcome) e, refl)
-  call-left line reply (Wrote at conn stream) e = never e
-  call-left line reply (Down at peer conn) e = never e
+      let d : Decision = tickOf (j .circuit .core) (hostOf at l o) (digitsBytes line own) in
+      (settled-left d _ (d .outcome) e, refl)
+  call-left line reply (Wrote at conn stream) e =
+      let d : Decision = wroteOf (j .circuit .core) at conn stream in
+      (settled-left d _ (d .outcome) e, refl)
+  call-left line reply (Down at peer conn) e =
+      let d : Decision = downOf (j .circuit .core) conn in
+      (settled-left d _ (d .outcome) e, refl)
   call-left line reply (Dial at conn token id) e = (dialed-left _ (dialStarted (j .ledger) conn token (Punch id) .outcome) e, refl)
   call-left line reply (Forget at conn) e = never e
   call-left line reply (Attribute at peer conn relayed) e =
-      (named-left _ (attributed (j .ledger) conn peer relayed (claimFor (j .circuit) conn relayed) at .answer) e, refl)
+      (named-left _ (attributed (j .ledger) conn peer relayed (claimFor (j .circuit .core) conn relayed) at .answer) e, refl)
   call-left line reply Unknown e = (refl, refl)
 
   turn-left : (line reply : List ℕ) (call : Line) → turnOf line j reply call .turn .said ≡ said.Refused why → Left j reply (turnOf line j reply call)

@@ -4,8 +4,7 @@ use mathlib.Core.Path.{_≡_}
 use mathlib.Core.Bool.{Bool}
 use mathlib.Core.List.{List}
 use Rattle.refusal.specs.declared.Refusal.{Refusal}
-use Rattle.journal_turns.specs.Turns.{counted, lineTurn}
-use Rattle.journal_turns.specs.declared.Journal.{Journal}
+use Rattle.journal_turns.specs.Turns.{Journal, counted, lineTurn}
 use Rattle.journal_turns.specs.declared.Said.the-variants.{Refused}
 
 -- a refused line is counted, and nothing else changes, no byte of the reply buffer either

@@ -1,6 +1,7 @@
 // Laws of whole journals, over the definitions that `journal_text` is proved to follow.
+ghost use Prim.Native.Nat.{ℕ};
 ghost use mathlib.Core.Path.{_≡_};
-ghost use mathlib.Core.List.{[]};
+ghost use mathlib.Core.List.{List, []};
 ghost use Rattle.text.specs.Words.{ascii};
 ghost use Rattle.journal_text.specs.Journals.{journalText, LineByLine, LongLinesAreOne};
 ghost use Rattle.journal_laws.specs.Laws.{RefusedChangesNothing, EveryLineCounts};
@@ -37,5 +38,5 @@ pub fn worked_example()
 
 // Each name is printed in its words.
 pub fn names_in_words()
-    ensures { λ _. ⌜ ((e : Effects) (relay : PeerId) → NamesInWords e relay) ⌝ }
+    ensures { λ _. ⌜ ((e : Effects) (sent aims : List ℕ) (relay : PeerId) → NamesInWords e sent aims relay) ⌝ }
 {}

@@ -8,9 +8,7 @@ use lib.ListN.{length, take, drop, length-append, length-take}
 use lib.Seq.{sets-eq, take-at}
 use Rattle.text.specs.Printed.{printed, behind}
 use Rattle.journal_prints.specs.Room.{room}
-use Rattle.journal_turns.specs.Turns.{lineTurn}
-use Rattle.journal_turns.specs.declared.Journal.{Journal}
-use Rattle.journal_turns.specs.declared.Turn.{Turn}
+use Rattle.journal_turns.specs.Turns.{Journal, Turned, lineTurn}
 use Rattle.journal_text.specs.Texts.{turnText, lineText}
 
 whole : (o : List ℕ) (p : ℕ) (t : List ℕ) {x : List ℕ} {q : ℕ} → x ≡ printed o p t → q ≡ behind o p t
@@ -21,7 +19,7 @@ whole o p t {x} {q} e f h k =
     rw (e, sets-eq t o p (omega arith))
     (take-at (take p o ++ t) (drop (p + length t) o) q (omega (arith, length-append (take p o) t, length-take p o)))
 
-pub line-answered : (j : Journal) (reply line : List ℕ) (ended : Bool) (o : List ℕ) (p : ℕ) {t : Turn} {b x : List ℕ} {q : ℕ}
+pub line-answered : (j : Journal) (reply line : List ℕ) (ended : Bool) (o : List ℕ) (p : ℕ) (t : Turned) {b x : List ℕ} {q : ℕ}
     → (t ≡ lineTurn j reply line ended .turn) × (b ≡ lineTurn j reply line ended .reply)
     → (x ≡ printed o p (turnText t)) × ((q ≡ behind o p (turnText t)) × (length (turnText t) ≤ 4 * room))
     → (t .journal ≡ lineTurn j reply line ended .turn .journal)
@@ -30,9 +28,9 @@ pub line-answered : (j : Journal) (reply line : List ℕ) (ended : Bool) (o : Li
     × ((q ≡ behind o p (lineText j reply line ended))
     × (p + 4 * room ≤ length o → take q x ≡ take p o ++ lineText j reply line ended))))
 unfolding lineText
-line-answered j reply line ended o p {t} f g =
+line-answered j reply line ended o p t f g =
     let z : turnText t ≡ turnText (lineTurn j reply line ended .turn) = ap turnText (f .0) in (
-      ap (λ (s : Turn). s .journal) (f .0),
+      ap (λ (s : Turned). s .journal) (f .0),
       (
         f .1,
         (

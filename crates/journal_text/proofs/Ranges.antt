@@ -1,5 +1,6 @@
 -- Numbers of 64 bits bound the length of what is printed. Assumes nothing.
 use mathlib.Core.Path.{_≡_, subst}
+use mathlib.Core.List.{List}
 use Prim.Native.Nat.{ℕ, _*_, _≤_}
 use native.Mathlib.Omega.{arith}
 use lib.ListN.{length}
@@ -37,5 +38,5 @@ named-short n {a = a} e h k = rw e (four-fit (short (isAttributed n a h k)))
 pub unnamed-short : (n : ℕ) {f : FoundPath} → f ≡ found.None → n ≤ most → length (attributedText n f) ≤ 4 * room
 unnamed-short n e h = rw e (four-fit (short (isUnattributed n h)))
 
-pub refused-short : (n : ℕ) (x : Effects) {s : Said} {why : Refusal} → s ≡ Refused why → n ≤ most → length (saidText n x s) ≤ 4 * room
-refused-short n x {why = why} e h = rw e (four-fit (short (isRefused n why h)))
+pub refused-short : (n : ℕ) (x : Effects) (sent aims : List ℕ) {s : Said} {why : Refusal} → s ≡ Refused why → n ≤ most → length (saidText n x sent aims s) ≤ 4 * room
+refused-short n x sent aims {why = why} e h = rw e (four-fit (short (isRefused n why h)))

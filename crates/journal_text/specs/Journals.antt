@@ -8,8 +8,7 @@ use lib.ListN.{length, take, drop, replicate}
 use Rattle.prelude.specs.Choice.{pick}
 use Rattle.text.specs.Words.{lengthBefore}
 use Rattle.journal_lines.specs.declared.First.{First}
-use Rattle.journal_turns.specs.Turns.{longest, lineTurn}
-use Rattle.journal_turns.specs.declared.Journal.{Journal}
+use Rattle.journal_turns.specs.Turns.{Journal, longest, lineTurn}
 use Rattle.journal_text.specs.Texts.{firstOf, isGood, opened, openingText, lineText}
 
 -- the first n lines of an input, each without its line feed, and whether it has one (section 12.1): a line goes up to its line feed, the

@@ -6,16 +6,14 @@ use lib.Dec.{ltb}
 use lib.ListN.{length}
 use Rattle.prelude.specs.Choice.{pick, both}
 use Rattle.refusal.specs.declared.Refusal.the-variants.{UnknownLine}
-use Rattle.inbound.specs.declared.Settings.{Settings}
+use Rattle.vocabulary.specs.declared.Settings.{Settings}
 use Rattle.journal_lines.specs.Lines.{settingsOf}
 use Rattle.journal_lines.specs.declared.First.{First}
 use Rattle.journal_prints.specs.Outputs.{attributedText, refusedText}
 use Rattle.journal_effects.specs.Effects.{effectsText}
 use Rattle.journal_effects.specs.declared.Effects.{Effects}
-use Rattle.journal_turns.specs.Turns.{newJournal, longest, lineTurn}
-use Rattle.journal_turns.specs.declared.Journal.{Journal}
+use Rattle.journal_turns.specs.Turns.{Journal, Turned, newJournal, longest, lineTurn}
 use Rattle.journal_turns.specs.declared.Said.{Said}
-use Rattle.journal_turns.specs.declared.Turn.{Turn}
 use Rattle.journal_lines.specs.declared.First.the-variants as first
 use Rattle.journal_turns.specs.declared.Said.the-variants as said
 
@@ -55,15 +53,16 @@ openingText first.Unknown = refusedText 0 UnknownLine
 
 -- ---- the lines behind it (section 12.7)
 
--- an output line for each effect, `none` without one; how a connection was named; the refusal alone
-abbrev pub saidText : ℕ → Effects → Said → List ℕ
-saidText n e said.Effects = effectsText n e
-saidText n e (said.Attributed f) = attributedText n f
-saidText n e (said.Refused why) = refusedText n why
+-- an output line for each effect, with the bytes of the message and of the targets, `none` without one; how a connection was named; the
+-- refusal alone
+abbrev pub saidText : ℕ → Effects → (sent aims : List ℕ) → Said → List ℕ
+saidText n e sent aims said.Effects = effectsText n e sent aims
+saidText n e sent aims (said.Attributed f) = attributedText n f
+saidText n e sent aims (said.Refused why) = refusedText n why
 
 -- in the line's number
-abbrev pub turnText : Turn → List ℕ
-turnText t = saidText (t .journal .n) (t .effects) (t .said)
+abbrev pub turnText : Turned → List ℕ
+turnText t = saidText (t .journal .n) (t .effects) (t .journal .sent) (t .journal .circuit .targets) (t .said)
 
 -- what is printed of a line: the journal before it, the reply buffer, the line without its line feed, and whether it had one
 unfoldable pub lineText : Journal → List ℕ → List ℕ → Bool → List ℕ

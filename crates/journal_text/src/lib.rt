@@ -1,13 +1,16 @@
 // What a journal prints, line by line: each line in, its output lines behind what a lent buffer holds already. What the buffer has no
 // room for is left out.
-use inbound::Settings;
+use frames::FrameBytes;
+use inbound::state::TargetBytes;
 use journal_effects::Effects;
 use journal_lines::First;
-use journal_turns::Journal;
 use journal_turns::Said;
+use journal_turns::State;
+use ledger::Ledger;
 use path::FoundPath;
 use path::Owner;
 use refusal::Refusal;
+use vocabulary::Settings;
 ghost use mathlib.Core.Path.{_≡_};
 ghost use mathlib.Core.List.{_++_};
 ghost use Prim.Native.Nat.{_+_, _*_, _≤_};
@@ -15,7 +18,8 @@ ghost use lib.ListN.{length, take};
 ghost use Rattle.text.specs.Printed.{printed, behind};
 ghost use Rattle.journal_prints.specs.Outputs.{attributedText};
 ghost use Rattle.journal_prints.specs.Room.{room, OwnerFits};
-ghost use Rattle.journal_turns.specs.Turns.{lineTurn};
+ghost use Rattle.ledger.specs.Ledger.{tablesOf};
+ghost use Rattle.journal_turns.specs.Turns.{whole, stateOf, lineTurn};
 ghost use Rattle.journal_text.specs.Texts.{firstOf, isGood, settingsIn, opened, openingText, saidText, lineText};
 
 // ---- the first line
@@ -23,7 +27,7 @@ ghost use Rattle.journal_text.specs.Texts.{firstOf, isGood, settingsIn, 
 // The journal that a good first line opens, and the place behind what was printed.
 pub struct Opening {
     pub good: bool,
-    pub journal: Journal,
+    pub state: State,
     pub next: usize,
 }
 
@@ -83,18 +87,18 @@ fn settings_in(first: First) -> Settings
 // line feed.
 pub fn open_journal(line: &[u8], ended: bool, out: &mut [u8], at: usize) -> Opening
     ensures good { λ r. ⌜ r .good ≡ isGood (firstOf (now (line .entry)) ended) ⌝ }
-    ensures journal { λ r. ⌜ r .journal ≡ opened (firstOf (now (line .entry)) ended) ⌝ }
+    ensures state { λ r. ⌜ r .state ≡ stateOf (opened (firstOf (now (line .entry)) ended)) ⌝ }
     ensures bytes { λ r. ⌜ now (out .exit) ≡ printed (now (out .entry)) at (openingText (firstOf (now (line .entry)) ended)) ⌝ }
     ensures place { λ r. ⌜ r .next ≡ behind (now (out .entry)) at (openingText (firstOf (now (line .entry)) ended)) ⌝ }
 {
     let first = read_first(line, ended);
     let settings = settings_in(first);
-    let journal = journal_turns::new_journal(settings);
+    let state = journal_turns::new_journal(settings);
     match first {
         First::Settings { .. } => {
             return Opening {
                 good: true,
-                journal: journal,
+                state: state,
                 next: at,
             };
         }
@@ -102,7 +106,7 @@ pub fn open_journal(line: &[u8], ended: bool, out: &mut [u8], at: usize) -> Open
             let p = journal_prints::put_refused(0, Refusal::UnknownLine, out, at);
             return Opening {
                 good: false,
-                journal: journal,
+                state: state,
                 next: p,
             };
         }
@@ -138,14 +142,22 @@ fn put_found(n: u64, found: FoundPath, out: &mut [u8], at: usize) -> usize
     }
 }
 
-fn put_said(n: u64, said: Said, effects: Effects, out: &mut [u8], at: usize) -> usize
-    ensures bytes { λ r. ⌜ now (out .exit) ≡ printed (now (out .entry)) at (saidText n effects said) ⌝ }
-    ensures place { λ r. ⌜ r ≡ behind (now (out .entry)) at (saidText n effects said) ⌝ }
-    ensures short { λ r. ⌜ length (saidText n effects said) ≤ 4 * room ⌝ }
+fn put_said(
+    n: u64,
+    said: Said,
+    effects: Effects,
+    sent: &FrameBytes,
+    aims: &TargetBytes,
+    out: &mut [u8],
+    at: usize,
+) -> usize
+    ensures bytes { λ r. ⌜ now (out .exit) ≡ printed (now (out .entry)) at (saidText n effects (now (sent .entry)) (now (aims .entry)) said) ⌝ }
+    ensures place { λ r. ⌜ r ≡ behind (now (out .entry)) at (saidText n effects (now (sent .entry)) (now (aims .entry)) said) ⌝ }
+    ensures short { λ r. ⌜ length (saidText n effects (now (sent .entry)) (now (aims .entry)) said) ≤ 4 * room ⌝ }
 {
     match said {
         Said::Effects => {
-            return journal_effects::put_effects(n, effects, out, at);
+            return journal_effects::put_effects(n, effects, sent, aims, out, at);
         }
         Said::Attributed(found) => {
             return put_found(n, found, out, at);
@@ -158,33 +170,37 @@ fn put_said(n: u64, said: Said, effects: Effects, out: &mut [u8], at: usize) -> 
 
 // The journal after a line, and the place behind what was printed.
 pub struct Answered {
-    pub journal: Journal,
+    pub state: State,
     pub next: usize,
 }
 
 // A line behind the first, without its line feed; `ended` is whether it had one. The reply buffer is the journal's, of 4,098 bytes. Where
 // there is room for four output lines nothing is cut.
 pub fn answer_line(
-    j: Journal,
+    j: State,
+    connect: &mut FrameBytes,
+    targets: &mut TargetBytes,
+    sent: &mut FrameBytes,
+    ledger: &mut Ledger,
     reply: &mut [u8],
     line: &[u8],
     ended: bool,
     out: &mut [u8],
     at: usize,
 ) -> Answered
-    ensures journal { λ r. ⌜ r .journal ≡ lineTurn j (now (reply .entry)) (now (line .entry)) ended .turn .journal ⌝ }
-    ensures reply { λ r. ⌜ now (reply .exit) ≡ lineTurn j (now (reply .entry)) (now (line .entry)) ended .reply ⌝ }
-    ensures bytes { λ r. ⌜ now (out .exit) ≡ printed (now (out .entry)) at (lineText j (now (reply .entry)) (now (line .entry)) ended) ⌝ }
-    ensures place { λ r. ⌜ r .next ≡ behind (now (out .entry)) at (lineText j (now (reply .entry)) (now (line .entry)) ended) ⌝ }
-    ensures whole { λ r. ⌜ (at + 4 * room ≤ length (now (out .entry)) → take (r .next) (now (out .exit)) ≡ take at (now (out .entry)) ++ lineText j (now (reply .entry)) (now (line .entry)) ended) ⌝ }
+    ensures journal { λ r. ⌜ whole (r .state) (now (connect .exit)) (now (targets .exit)) (tablesOf (now (ledger .exit))) (now (ledger .exit)) (now (sent .exit)) ≡ lineTurn (whole j (now (connect .entry)) (now (targets .entry)) (tablesOf (now (ledger .entry))) (now (ledger .entry)) (now (sent .entry))) (now (reply .entry)) (now (line .entry)) ended .turn .journal ⌝ }
+    ensures reply { λ r. ⌜ now (reply .exit) ≡ lineTurn (whole j (now (connect .entry)) (now (targets .entry)) (tablesOf (now (ledger .entry))) (now (ledger .entry)) (now (sent .entry))) (now (reply .entry)) (now (line .entry)) ended .reply ⌝ }
+    ensures bytes { λ r. ⌜ now (out .exit) ≡ printed (now (out .entry)) at (lineText (whole j (now (connect .entry)) (now (targets .entry)) (tablesOf (now (ledger .entry))) (now (ledger .entry)) (now (sent .entry))) (now (reply .entry)) (now (line .entry)) ended) ⌝ }
+    ensures place { λ r. ⌜ r .next ≡ behind (now (out .entry)) at (lineText (whole j (now (connect .entry)) (now (targets .entry)) (tablesOf (now (ledger .entry))) (now (ledger .entry)) (now (sent .entry))) (now (reply .entry)) (now (line .entry)) ended) ⌝ }
+    ensures whole { λ r. ⌜ (at + 4 * room ≤ length (now (out .entry)) → take (r .next) (now (out .exit)) ≡ take at (now (out .entry)) ++ lineText (whole j (now (connect .entry)) (now (targets .entry)) (tablesOf (now (ledger .entry))) (now (ledger .entry)) (now (sent .entry))) (now (reply .entry)) (now (line .entry)) ended) ⌝ }
 {
-    let t = journal_turns::take_line(j, reply, line, ended);
-    let next = t.journal;
+    let t = journal_turns::take_line(j, connect, targets, sent, ledger, reply, line, ended);
+    let next = t.state;
     let said = t.said;
     let effects = t.effects;
-    let p = put_said(next.n, said, effects, out, at);
+    let p = put_said(next.n, said, effects, sent, targets, out, at);
     Answered {
-        journal: next,
+        state: next,
         next: p,
     }
 }

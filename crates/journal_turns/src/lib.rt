@@ -1,49 +1,53 @@
-// What a journal's lines do, one after the other. The journal's state goes in by value and comes back with what is to be said.
-use candidates::Chosen;
+// What a journal's lines do, one after the other. The journal's numbers go in by value and come back with what is to be said; its bytes are
+// lent: the circuit's CONNECT and targets, the message that goes out, the ledger, and the reply buffer.
 use fields::Maybe;
 use fields::Pair;
+use frames::FrameBytes;
 use ids::ConnectId;
 use ids::ConnectionId;
 use ids::NatToken;
 use ids::PeerId;
 use ids::StreamId;
-use inbound::Answer;
-use inbound::Effect;
-use inbound::Host;
-use inbound::InboundCircuit;
-use inbound::Live;
-use inbound::Offer;
-use inbound::Outcome;
-use inbound::Own;
-use inbound::Settings;
-use inbound::StreamInput;
-use initiator::Framed;
+use inbound::decision;
+use inbound::decision::Decision;
+use inbound::state::Core;
+use inbound::state::TargetBytes;
 use journal_effects::Effects;
 use journal_lines::Digits;
 use journal_lines::Kind;
 use journal_lines::Line;
-use ledger::PathLedger;
+use ledger::Ledger;
 use path::Claim;
 use path::DialPurpose;
 use path::FoundPath;
 use refusal::Refusal;
+use vocabulary::Effect;
+use vocabulary::Host;
+use vocabulary::Live;
+use vocabulary::Offer;
+use vocabulary::Outcome;
+use vocabulary::Settings;
+use vocabulary::StreamInput;
 ghost use mathlib.Core.Path.{_≡_};
 ghost use Prim.Native.Nat.{_<_};
 ghost use lib.ListN.{length, replicate};
-ghost use Rattle.inbound.specs.Input.{ownOf};
 ghost use Rattle.text.specs.Printed.{printed, behind};
-ghost use Rattle.journal_turns.specs.Turns.{longest, noEffects, newJournal, oneMore, counted, withState, started, silent, refused, effectsOf, answered, digitsBytes, liveOf, offerOf, hostOf, inputOf, startTurn, upTurn, inputTurn, tickTurn, wroteTurn, downTurn, dialTurn, forgetTurn, claimFor, naming, attributeTurn, needsStart, callTurn, turnOf, lineTurn};
+ghost use Rattle.path.specs.declared.DialPurpose.the-variants.{Punch};
+ghost use Rattle.ledger.specs.Ledger.{tablesOf, laid, dialStarted, forgotten, attributed};
+ghost use Rattle.inbound.specs.Carried.{sentAfter, ledgerAfter, connectAfter};
+ghost use Rattle.inbound.specs.Calls.{startedOf, upOf, tickOf, wroteOf, downOf};
+ghost use Rattle.inbound.specs.Circuits.{noFrame, noAims};
+ghost use Rattle.journal_turns.specs.Turns.{longest, whole, stateOf, turned, noEffects, newJournal, oneMore, saying, effectsOf, settledIn, digitsBytes, liveOf, offerOf, hostOf, inputOf, startedIn, clearedBy, inputTurn, expired, claimFor, saidOf, namedAs, needsStart, callTurn, turnOf, lineTurn};
 
 // ---- the state
 
-// Before a start was accepted `circuit` stands in for none, and no line reaches it.
-pub struct Journal {
+// The journal, but for its bytes. Before a start was accepted `core` stands in for none, and no line reaches it.
+pub struct State {
     // The lines so far, without the first.
     pub n: u64,
     pub begun: bool,
     pub settings: Settings,
-    pub circuit: InboundCircuit,
-    pub ledger: PathLedger,
+    pub core: Core,
 }
 
 // An accepted call says its effects, or how a connection was named.
@@ -55,23 +59,22 @@ pub enum Said {
 
 // The journal after a line, and what is said of the line.
 pub struct Turn {
-    pub journal: Journal,
+    pub state: State,
     pub said: Said,
     pub effects: Effects,
 }
 
-pub fn new_journal(settings: Settings) -> Journal
-    ensures { λ r. ⌜ r ≡ newJournal settings ⌝ }
+// Its bytes and its ledger's words are zeros.
+pub fn new_journal(settings: Settings) -> State
+    ensures { λ r. ⌜ r ≡ stateOf (newJournal settings) ⌝ }
 {
-    let s = InboundCircuit::new(PeerId(0), PeerId(0), ConnectionId(0), settings, 0);
-    let circuit = s.circuit;
-    let ledger = PathLedger::empty();
-    Journal {
+    let d = Core::new(PeerId(0), PeerId(0), ConnectionId(0), settings, 0);
+    let core = d.core;
+    State {
         n: 0,
         begun: false,
         settings: settings,
-        circuit: circuit,
-        ledger: ledger,
+        core: core,
     }
 }
 
@@ -84,123 +87,66 @@ fn one_more(n: u64) -> u64
     n
 }
 
-fn count(j: Journal) -> Journal
-    ensures { λ r. ⌜ r ≡ counted j ⌝ }
-{
-    let n = one_more(j.n);
-    let settings = j.settings;
-    let circuit = j.circuit;
-    let ledger = j.ledger;
-    Journal {
-        n: n,
-        begun: j.begun,
-        settings: settings,
-        circuit: circuit,
-        ledger: ledger,
-    }
-}
-
-fn with_state(j: Journal, circuit: InboundCircuit, ledger: PathLedger) -> Journal
-    ensures { λ r. ⌜ r ≡ withState j circuit ledger ⌝ }
-{
-    let settings = j.settings;
-    Journal {
-        n: j.n,
-        begun: j.begun,
-        settings: settings,
-        circuit: circuit,
-        ledger: ledger,
-    }
-}
-
-// A circuit begins; the ledger stays.
-fn start(j: Journal, circuit: InboundCircuit) -> Journal
-    ensures { λ r. ⌜ r ≡ started j circuit ⌝ }
-{
-    let settings = j.settings;
-    let ledger = j.ledger;
-    Journal {
-        n: j.n,
-        begun: true,
-        settings: settings,
-        circuit: circuit,
-        ledger: ledger,
-    }
-}
-
 // ---- what is said
 
 fn no_effects() -> Effects
     ensures { λ r. ⌜ r ≡ noEffects ⌝ }
 {
-    let message = Framed::empty();
-    let targets = Chosen::empty();
     Effects {
         first: Effect::Nothing,
         second: Effect::Nothing,
         third: Effect::Nothing,
         fourth: Effect::Nothing,
-        message: message,
-        targets: targets,
+        message: 0,
+        targets: 0,
     }
 }
 
-fn say_nothing(j: Journal) -> Turn
-    ensures { λ r. ⌜ r ≡ silent j ⌝ }
+fn say(j: State, said: Said) -> Turn
+    ensures { λ r. ⌜ r ≡ saying j said ⌝ }
 {
     let effects = no_effects();
     Turn {
-        journal: j,
-        said: Said::Effects,
+        state: j,
+        said: said,
         effects: effects,
     }
 }
 
-fn refuse(j: Journal, why: Refusal) -> Turn
-    ensures { λ r. ⌜ r ≡ refused j why ⌝ }
+fn effects_of(d: Decision) -> Effects
+    ensures { λ r. ⌜ r ≡ effectsOf d ⌝ }
 {
-    let effects = no_effects();
-    Turn {
-        journal: j,
-        said: Said::Refused(why),
-        effects: effects,
-    }
-}
-
-fn effects_of(a: Answer) -> Effects
-    ensures { λ r. ⌜ r ≡ effectsOf a ⌝ }
-{
-    let first = a.first;
-    let second = a.second;
-    let third = a.third;
-    let fourth = a.fourth;
-    let message = a.message;
-    let targets = a.targets;
+    let core = d.core;
+    let first = d.first;
+    let second = d.second;
+    let third = d.third;
+    let fourth = d.fourth;
+    let message = d.message;
+    let size = decision::message_size(message);
     Effects {
         first: first,
         second: second,
         third: third,
         fourth: fourth,
-        message: message,
-        targets: targets,
+        message: size,
+        targets: core.targets,
     }
 }
 
-// The circuit's answer, and the ledger that an accepted call leaves.
-fn settle(before: Journal, a: Answer, ledger: PathLedger) -> Turn
-    ensures { λ r. ⌜ r ≡ answered before a ledger (a .outcome) ⌝ }
+// What the circuit decided.
+fn settle(j: State, d: Decision) -> Turn
+    ensures { λ r. ⌜ r ≡ settledIn j d (d .outcome) ⌝ }
 {
-    let outcome = a.outcome;
-    let circuit = a.circuit;
-    let next = with_state(before, circuit, ledger);
+    let outcome = d.outcome;
+    let core = d.core;
     match outcome {
         Outcome::Refused(why) => {
-            return refuse(before, why);
+            return say(j, Said::Refused(why));
         }
         Outcome::Accepted => {
-            let effects = effects_of(a);
+            let effects = effects_of(d);
             return Turn {
-                journal: next,
+                state: State { core: core, ..j },
                 said: Said::Effects,
                 effects: effects,
             };
@@ -232,15 +178,6 @@ fn zeros() -> Bytes
     [0u8; 16384]
 }
 
-fn own_at(line: &[u8], own: Digits) -> Own
-    requires { ⌜ length (now line) < longest ⌝ }
-    ensures { λ r. ⌜ r ≡ ownOf (digitsBytes (now (line .entry)) own) ⌝ }
-{
-    let mut bytes = zeros();
-    let n = read_digits(line, own, &mut bytes);
-    Own::read(&bytes[..n])
-}
-
 fn live_of(live: Maybe) -> Live
     ensures { λ r. ⌜ r ≡ liveOf live ⌝ }
 {
@@ -259,18 +196,15 @@ fn offer_of(offer: Pair) -> Offer
     }
 }
 
-fn host_at(line: &[u8], at: u64, live: Maybe, offer: Pair, own: Digits) -> Host
-    requires { ⌜ length (now line) < longest ⌝ }
-    ensures { λ r. ⌜ r ≡ hostOf at live offer (digitsBytes (now (line .entry)) own) ⌝ }
+fn host_at(at: u64, live: Maybe, offer: Pair) -> Host
+    ensures { λ r. ⌜ r ≡ hostOf at live offer ⌝ }
 {
     let on = live_of(live);
     let offered = offer_of(offer);
-    let listed = own_at(line, own);
     Host {
         at: at,
         live: on,
         offer: offered,
-        own: listed,
     }
 }
 
@@ -287,118 +221,282 @@ fn input_of(kind: Kind) -> StreamInput
 
 // ---- the calls
 
-fn start_turn(j: Journal, at: u64, source: PeerId, relay: PeerId, circuit: ConnectionId) -> Turn
-    ensures { λ r. ⌜ r ≡ startTurn j at source relay circuit ⌝ }
+// An accepted start puts a circuit in place of the one before; the ledger stays.
+fn start_turn(
+    j: State,
+    connect: &mut FrameBytes,
+    targets: &mut TargetBytes,
+    at: u64,
+    source: PeerId,
+    relay: PeerId,
+    circuit: ConnectionId,
+) -> Turn
+    ensures turn { λ r. ⌜ r ≡ startedIn j (startedOf source relay circuit (j .settings) at) (startedOf source relay circuit (j .settings) at .outcome) ⌝ }
+    ensures connect { λ r. ⌜ now (connect .exit) ≡ clearedBy (startedOf source relay circuit (j .settings) at .outcome) noFrame (now (connect .entry)) ⌝ }
+    ensures targets { λ r. ⌜ now (targets .exit) ≡ clearedBy (startedOf source relay circuit (j .settings) at .outcome) noAims (now (targets .entry)) ⌝ }
 {
     let settings = j.settings;
-    let s = InboundCircuit::new(source, relay, circuit, settings, at);
-    let outcome = s.outcome;
-    let begun = s.circuit;
-    let next = start(j, begun);
+    let d = Core::new(source, relay, circuit, settings, at);
+    let outcome = d.outcome;
+    let core = d.core;
     match outcome {
-        Outcome::Refused(too_late) => {
-            return refuse(j, too_late);
+        Outcome::Refused(why) => {
+            return say(j, Said::Refused(why));
         }
         Outcome::Accepted => {
-            return say_nothing(next);
+            inbound::circuit::clear(connect, targets);
+            return say(
+                State {
+                    begun: true,
+                    core: core,
+                    ..j
+                },
+                Said::Effects,
+            );
         }
     }
 }
 
-fn up_turn(j: Journal, host: Host, peer: PeerId, conn: ConnectionId, circuit: bool) -> Turn
-    ensures { λ r. ⌜ r ≡ upTurn j host peer conn circuit ⌝ }
+fn up_turn(
+    j: State,
+    connect: &mut FrameBytes,
+    sent: &mut FrameBytes,
+    ledger: &mut Ledger,
+    host: Host,
+    own: &[u8],
+    peer: PeerId,
+    conn: ConnectionId,
+    circuit: bool,
+) -> Turn
+    ensures turn { λ r. ⌜ r ≡ settledIn j (upOf (j .core) host (now (own .entry)) peer conn circuit) (upOf (j .core) host (now (own .entry)) peer conn circuit .outcome) ⌝ }
+    ensures connect { λ r. ⌜ now (connect .exit) ≡ connectAfter (now (own .entry)) (now (connect .entry)) (upOf (j .core) host (now (own .entry)) peer conn circuit .fourth) ⌝ }
+    ensures sent { λ r. ⌜ now (sent .exit) ≡ sentAfter (now (connect .entry)) (now (sent .entry)) (upOf (j .core) host (now (own .entry)) peer conn circuit .message) ⌝ }
+    ensures tables { λ r. ⌜ tablesOf (now (ledger .exit)) ≡ ledgerAfter (j .core .source) (tablesOf (now (ledger .entry))) (upOf (j .core) host (now (own .entry)) peer conn circuit .window) ⌝ }
+    ensures words { λ r. ⌜ now (ledger .exit) ≡ laid (ledgerAfter (j .core .source) (tablesOf (now (ledger .entry))) (upOf (j .core) host (now (own .entry)) peer conn circuit .window)) (now (ledger .entry)) ⌝ }
 {
-    let c = j.circuit;
-    let ledger = j.ledger;
-    let a = c.on_connection_established(ledger, host, peer, conn, circuit);
-    let left = a.ledger;
-    settle(j, a, left)
+    let core = j.core;
+    let d = core.on_connection_established(connect, sent, ledger, host, own, peer, conn, circuit);
+    settle(j, d)
+}
+
+fn up_line(
+    line: &[u8],
+    j: State,
+    connect: &mut FrameBytes,
+    sent: &mut FrameBytes,
+    ledger: &mut Ledger,
+    at: u64,
+    live: Maybe,
+    offer: Pair,
+    own: Digits,
+    peer: PeerId,
+    conn: ConnectionId,
+    circuit: bool,
+) -> Turn
+    requires { ⌜ length (now line) < longest ⌝ }
+    ensures turn { λ r. ⌜ r ≡ settledIn j (upOf (j .core) (hostOf at live offer) (digitsBytes (now (line .entry)) own) peer conn circuit) (upOf (j .core) (hostOf at live offer) (digitsBytes (now (line .entry)) own) peer conn circuit .outcome) ⌝ }
+    ensures connect { λ r. ⌜ now (connect .exit) ≡ connectAfter (digitsBytes (now (line .entry)) own) (now (connect .entry)) (upOf (j .core) (hostOf at live offer) (digitsBytes (now (line .entry)) own) peer conn circuit .fourth) ⌝ }
+    ensures sent { λ r. ⌜ now (sent .exit) ≡ sentAfter (now (connect .entry)) (now (sent .entry)) (upOf (j .core) (hostOf at live offer) (digitsBytes (now (line .entry)) own) peer conn circuit .message) ⌝ }
+    ensures tables { λ r. ⌜ tablesOf (now (ledger .exit)) ≡ ledgerAfter (j .core .source) (tablesOf (now (ledger .entry))) (upOf (j .core) (hostOf at live offer) (digitsBytes (now (line .entry)) own) peer conn circuit .window) ⌝ }
+    ensures words { λ r. ⌜ now (ledger .exit) ≡ laid (ledgerAfter (j .core .source) (tablesOf (now (ledger .entry))) (upOf (j .core) (hostOf at live offer) (digitsBytes (now (line .entry)) own) peer conn circuit .window)) (now (ledger .entry)) ⌝ }
+{
+    let host = host_at(at, live, offer);
+    let mut list = zeros();
+    let n = read_digits(line, own, &mut list);
+    up_turn(
+        j,
+        connect,
+        sent,
+        ledger,
+        host,
+        &list[..n],
+        peer,
+        conn,
+        circuit,
+    )
 }
 
 fn input_turn(
-    line: &[u8],
-    j: Journal,
-    host: Host,
+    j: State,
+    connect: &mut FrameBytes,
+    targets: &mut TargetBytes,
+    sent: &mut FrameBytes,
+    ledger: &mut Ledger,
     reply: &mut [u8],
+    host: Host,
+    own: &[u8],
+    stream: StreamId,
+    kind: Kind,
+    bytes: &[u8],
+    pending: bool,
+) -> Turn
+    ensures turn { λ r. ⌜ turned r (now (connect .exit)) (now (targets .exit)) (tablesOf (now (ledger .exit))) (now (ledger .exit)) (now (sent .exit)) ≡ inputTurn (whole j (now (connect .entry)) (now (targets .entry)) (tablesOf (now (ledger .entry))) (now (ledger .entry)) (now (sent .entry))) host (now (own .entry)) (now (reply .entry)) stream kind (now (bytes .entry)) pending .turn ⌝ }
+    ensures reply { λ r. ⌜ now (reply .exit) ≡ inputTurn (whole j (now (connect .entry)) (now (targets .entry)) (tablesOf (now (ledger .entry))) (now (ledger .entry)) (now (sent .entry))) host (now (own .entry)) (now (reply .entry)) stream kind (now (bytes .entry)) pending .reply ⌝ }
+{
+    rows::known(ledger);
+    let core = j.core;
+    let input = input_of(kind);
+    let d = core.on_dcutr_stream_input(
+        connect,
+        targets,
+        sent,
+        ledger,
+        reply,
+        host,
+        own,
+        stream,
+        input,
+        bytes,
+        pending,
+    );
+    settle(j, d)
+}
+
+fn input_line(
+    line: &[u8],
+    j: State,
+    connect: &mut FrameBytes,
+    targets: &mut TargetBytes,
+    sent: &mut FrameBytes,
+    ledger: &mut Ledger,
+    reply: &mut [u8],
+    at: u64,
+    live: Maybe,
+    offer: Pair,
+    own: Digits,
     stream: StreamId,
     kind: Kind,
     bytes: Digits,
     pending: bool,
 ) -> Turn
     requires { ⌜ length (now line) < longest ⌝ }
-    ensures turn { λ r. ⌜ r ≡ inputTurn j host (now (reply .entry)) stream kind (digitsBytes (now (line .entry)) bytes) pending .turn ⌝ }
-    ensures reply { λ r. ⌜ now (reply .exit) ≡ inputTurn j host (now (reply .entry)) stream kind (digitsBytes (now (line .entry)) bytes) pending .reply ⌝ }
+    ensures turn { λ r. ⌜ turned r (now (connect .exit)) (now (targets .exit)) (tablesOf (now (ledger .exit))) (now (ledger .exit)) (now (sent .exit)) ≡ inputTurn (whole j (now (connect .entry)) (now (targets .entry)) (tablesOf (now (ledger .entry))) (now (ledger .entry)) (now (sent .entry))) (hostOf at live offer) (digitsBytes (now (line .entry)) own) (now (reply .entry)) stream kind (digitsBytes (now (line .entry)) bytes) pending .turn ⌝ }
+    ensures reply { λ r. ⌜ now (reply .exit) ≡ inputTurn (whole j (now (connect .entry)) (now (targets .entry)) (tablesOf (now (ledger .entry))) (now (ledger .entry)) (now (sent .entry))) (hostOf at live offer) (digitsBytes (now (line .entry)) own) (now (reply .entry)) stream kind (digitsBytes (now (line .entry)) bytes) pending .reply ⌝ }
 {
+    let host = host_at(at, live, offer);
+    let mut list = zeros();
+    let n = read_digits(line, own, &mut list);
     let mut heard = zeros();
-    let n = read_digits(line, bytes, &mut heard);
-    let input = input_of(kind);
-    let c = j.circuit;
-    let ledger = j.ledger;
-    let a = c.on_dcutr_stream_input(ledger, host, reply, stream, input, &heard[..n], pending);
-    let left = a.ledger;
-    settle(j, a, left)
+    let k = read_digits(line, bytes, &mut heard);
+    input_turn(
+        j,
+        connect,
+        targets,
+        sent,
+        ledger,
+        reply,
+        host,
+        &list[..n],
+        stream,
+        kind,
+        &heard[..k],
+        pending,
+    )
 }
 
 // The ledger ticks behind the circuit, where the circuit's tick is accepted.
-fn tick_turn(j: Journal, host: Host) -> Turn
-    ensures { λ r. ⌜ r ≡ tickTurn j host ⌝ }
+fn expire(outcome: Outcome, ledger: &mut Ledger, at: u64)
+    ensures tables { λ _. ⌜ tablesOf (now (ledger .exit)) ≡ expired outcome (tablesOf (now (ledger .entry))) at ⌝ }
+    ensures words { λ _. ⌜ now (ledger .exit) ≡ laid (expired outcome (tablesOf (now (ledger .entry))) at) (now (ledger .entry)) ⌝ }
 {
-    let c = j.circuit;
-    let ledger = j.ledger;
-    let a = c.on_tick(ledger, host);
-    let left = a.ledger;
-    let ticked = left.on_tick(host.at);
-    settle(j, a, ticked)
-}
-
-fn wrote_turn(j: Journal, at: u64, conn: ConnectionId, stream: StreamId) -> Turn
-    ensures { λ r. ⌜ r ≡ wroteTurn j at conn stream ⌝ }
-{
-    let c = j.circuit;
-    let ledger = j.ledger;
-    let next = c.on_write_completed(at, conn, stream);
-    say_nothing(with_state(j, next, ledger))
-}
-
-fn down_turn(j: Journal, conn: ConnectionId) -> Turn
-    ensures { λ r. ⌜ r ≡ downTurn j conn ⌝ }
-{
-    let c = j.circuit;
-    let ledger = j.ledger;
-    let next = c.on_connection_closed(conn);
-    say_nothing(with_state(j, next, ledger))
-}
-
-fn dial_turn(j: Journal, conn: ConnectionId, token: NatToken, id: ConnectId) -> Turn
-    ensures { λ r. ⌜ r ≡ dialTurn j conn token id ⌝ }
-{
-    let c = j.circuit;
-    let ledger = j.ledger;
-    let recorded = ledger.dial_started(conn, token, DialPurpose::Punch(id));
-    let outcome = recorded.outcome;
     match outcome {
-        ledger::Outcome::Refused(why) => {
-            return refuse(j, why);
+        Outcome::Accepted => ledger::on_tick(ledger, at),
+        Outcome::Refused(_) => rows::known(ledger),
+    }
+}
+
+fn tick_turn(
+    j: State,
+    connect: &mut FrameBytes,
+    sent: &mut FrameBytes,
+    ledger: &mut Ledger,
+    host: Host,
+    own: &[u8],
+) -> Turn
+    ensures turn { λ r. ⌜ r ≡ settledIn j (tickOf (j .core) host (now (own .entry))) (tickOf (j .core) host (now (own .entry)) .outcome) ⌝ }
+    ensures connect { λ r. ⌜ now (connect .exit) ≡ connectAfter (now (own .entry)) (now (connect .entry)) (tickOf (j .core) host (now (own .entry)) .fourth) ⌝ }
+    ensures sent { λ r. ⌜ now (sent .exit) ≡ sentAfter (now (connect .entry)) (now (sent .entry)) (tickOf (j .core) host (now (own .entry)) .message) ⌝ }
+    ensures tables { λ r. ⌜ tablesOf (now (ledger .exit)) ≡ expired (tickOf (j .core) host (now (own .entry)) .outcome) (ledgerAfter (j .core .source) (tablesOf (now (ledger .entry))) (tickOf (j .core) host (now (own .entry)) .window)) (host .at) ⌝ }
+    ensures words { λ r. ⌜ now (ledger .exit) ≡ laid (expired (tickOf (j .core) host (now (own .entry)) .outcome) (ledgerAfter (j .core .source) (tablesOf (now (ledger .entry))) (tickOf (j .core) host (now (own .entry)) .window)) (host .at)) (laid (ledgerAfter (j .core .source) (tablesOf (now (ledger .entry))) (tickOf (j .core) host (now (own .entry)) .window)) (now (ledger .entry))) ⌝ }
+{
+    let core = j.core;
+    let d = core.on_tick(connect, sent, ledger, host, own);
+    let outcome = d.outcome;
+    expire(outcome, ledger, host.at);
+    settle(j, d)
+}
+
+fn tick_line(
+    line: &[u8],
+    j: State,
+    connect: &mut FrameBytes,
+    sent: &mut FrameBytes,
+    ledger: &mut Ledger,
+    at: u64,
+    live: Maybe,
+    offer: Pair,
+    own: Digits,
+) -> Turn
+    requires { ⌜ length (now line) < longest ⌝ }
+    ensures turn { λ r. ⌜ r ≡ settledIn j (tickOf (j .core) (hostOf at live offer) (digitsBytes (now (line .entry)) own)) (tickOf (j .core) (hostOf at live offer) (digitsBytes (now (line .entry)) own) .outcome) ⌝ }
+    ensures connect { λ r. ⌜ now (connect .exit) ≡ connectAfter (digitsBytes (now (line .entry)) own) (now (connect .entry)) (tickOf (j .core) (hostOf at live offer) (digitsBytes (now (line .entry)) own) .fourth) ⌝ }
+    ensures sent { λ r. ⌜ now (sent .exit) ≡ sentAfter (now (connect .entry)) (now (sent .entry)) (tickOf (j .core) (hostOf at live offer) (digitsBytes (now (line .entry)) own) .message) ⌝ }
+    ensures tables { λ r. ⌜ tablesOf (now (ledger .exit)) ≡ expired (tickOf (j .core) (hostOf at live offer) (digitsBytes (now (line .entry)) own) .outcome) (ledgerAfter (j .core .source) (tablesOf (now (ledger .entry))) (tickOf (j .core) (hostOf at live offer) (digitsBytes (now (line .entry)) own) .window)) (hostOf at live offer .at) ⌝ }
+    ensures words { λ r. ⌜ now (ledger .exit) ≡ laid (expired (tickOf (j .core) (hostOf at live offer) (digitsBytes (now (line .entry)) own) .outcome) (ledgerAfter (j .core .source) (tablesOf (now (ledger .entry))) (tickOf (j .core) (hostOf at live offer) (digitsBytes (now (line .entry)) own) .window)) (hostOf at live offer .at)) (laid (ledgerAfter (j .core .source) (tablesOf (now (ledger .entry))) (tickOf (j .core) (hostOf at live offer) (digitsBytes (now (line .entry)) own) .window)) (now (ledger .entry))) ⌝ }
+{
+    let host = host_at(at, live, offer);
+    let mut list = zeros();
+    let n = read_digits(line, own, &mut list);
+    tick_turn(j, connect, sent, ledger, host, &list[..n])
+}
+
+fn wrote_turn(j: State, at: u64, conn: ConnectionId, stream: StreamId) -> Turn
+    ensures { λ r. ⌜ r ≡ settledIn j (wroteOf (j .core) at conn stream) (wroteOf (j .core) at conn stream .outcome) ⌝ }
+{
+    let core = j.core;
+    settle(j, core.on_write_completed(at, conn, stream))
+}
+
+fn down_turn(j: State, conn: ConnectionId) -> Turn
+    ensures { λ r. ⌜ r ≡ settledIn j (downOf (j .core) conn) (downOf (j .core) conn .outcome) ⌝ }
+{
+    let core = j.core;
+    settle(j, core.on_connection_closed(conn))
+}
+
+fn dial_turn(
+    j: State,
+    ledger: &mut Ledger,
+    conn: ConnectionId,
+    token: NatToken,
+    id: ConnectId,
+) -> Turn
+    ensures turn { λ r. ⌜ r ≡ saying j (saidOf (dialStarted (tablesOf (now (ledger .entry))) conn token (Punch id) .outcome)) ⌝ }
+    ensures tables { λ r. ⌜ tablesOf (now (ledger .exit)) ≡ dialStarted (tablesOf (now (ledger .entry))) conn token (Punch id) .ledger ⌝ }
+    ensures words { λ r. ⌜ now (ledger .exit) ≡ laid (dialStarted (tablesOf (now (ledger .entry))) conn token (Punch id) .ledger) (now (ledger .entry)) ⌝ }
+{
+    let outcome = ledger::dial_started(ledger, conn, token, DialPurpose::Punch(id));
+    match outcome {
+        Outcome::Refused(why) => {
+            return say(j, Said::Refused(why));
         }
-        ledger::Outcome::Accepted => {
-            let left = recorded.ledger;
-            return say_nothing(with_state(j, c, left));
+        Outcome::Accepted => {
+            return say(j, Said::Effects);
         }
     }
 }
 
-fn forget_turn(j: Journal, conn: ConnectionId) -> Turn
-    ensures { λ r. ⌜ r ≡ forgetTurn j conn ⌝ }
+fn forget_turn(j: State, ledger: &mut Ledger, conn: ConnectionId) -> Turn
+    ensures turn { λ r. ⌜ r ≡ saying j (Said.Effects) ⌝ }
+    ensures tables { λ r. ⌜ tablesOf (now (ledger .exit)) ≡ forgotten (tablesOf (now (ledger .entry))) conn .ledger ⌝ }
+    ensures words { λ r. ⌜ now (ledger .exit) ≡ laid (forgotten (tablesOf (now (ledger .entry))) conn .ledger) (now (ledger .entry)) ⌝ }
 {
-    let c = j.circuit;
-    let ledger = j.ledger;
-    let forgotten = ledger.forget(conn);
-    let left = forgotten.ledger;
-    say_nothing(with_state(j, c, left))
+    ledger::forget(ledger, conn);
+    say(j, Said::Effects)
 }
 
 // Only a circuit carries the circuit's claim.
-fn claim_for(c: InboundCircuit, conn: ConnectionId, circuit: bool) -> Claim
+fn claim_for(c: Core, conn: ConnectionId, circuit: bool) -> Claim
     ensures { λ r. ⌜ r ≡ claimFor c conn circuit ⌝ }
 {
     if circuit {
@@ -407,35 +505,30 @@ fn claim_for(c: InboundCircuit, conn: ConnectionId, circuit: bool) -> Claim
     Claim::None
 }
 
-fn named(j: Journal, found: FoundPath) -> Turn
-    ensures { λ r. ⌜ r ≡ naming j found ⌝ }
+fn attribute_turn(
+    j: State,
+    ledger: &mut Ledger,
+    at: u64,
+    peer: PeerId,
+    conn: ConnectionId,
+    circuit: bool,
+) -> Turn
+    ensures turn { λ r. ⌜ r ≡ saying j (namedAs (attributed (tablesOf (now (ledger .entry))) conn peer circuit (claimFor (j .core) conn circuit) at .answer)) ⌝ }
+    ensures tables { λ r. ⌜ tablesOf (now (ledger .exit)) ≡ attributed (tablesOf (now (ledger .entry))) conn peer circuit (claimFor (j .core) conn circuit) at .ledger ⌝ }
+    ensures words { λ r. ⌜ now (ledger .exit) ≡ laid (attributed (tablesOf (now (ledger .entry))) conn peer circuit (claimFor (j .core) conn circuit) at .ledger) (now (ledger .entry)) ⌝ }
 {
-    let effects = no_effects();
-    Turn {
-        journal: j,
-        said: Said::Attributed(found),
-        effects: effects,
-    }
-}
-
-fn attribute_turn(j: Journal, at: u64, peer: PeerId, conn: ConnectionId, circuit: bool) -> Turn
-    ensures { λ r. ⌜ r ≡ attributeTurn j at peer conn circuit ⌝ }
-{
-    let c = j.circuit;
-    let ledger = j.ledger;
-    let claim = claim_for(c, conn, circuit);
-    let attributed = ledger.attribute(conn, peer, circuit, claim, at);
-    let left = attributed.ledger;
-    let said = attributed.answer;
-    match said {
+    let core = j.core;
+    let claim = claim_for(core, conn, circuit);
+    let answer = ledger::attribute(ledger, conn, peer, circuit, claim, at);
+    match answer {
         ledger::Answer::Path(found) => {
-            return named(with_state(j, c, left), FoundPath::At(found));
+            return say(j, Said::Attributed(FoundPath::At(found)));
         }
         ledger::Answer::None => {
-            return named(with_state(j, c, left), FoundPath::None);
+            return say(j, Said::Attributed(FoundPath::None));
         }
         ledger::Answer::Refused(why) => {
-            return refuse(j, why);
+            return say(j, Said::Refused(why));
         }
     }
 }
@@ -460,18 +553,28 @@ fn needs_start(call: Line) -> bool
     }
 }
 
-fn make_call(line: &[u8], j: Journal, reply: &mut [u8], call: Line) -> Turn
+fn make_call(
+    line: &[u8],
+    j: State,
+    connect: &mut FrameBytes,
+    targets: &mut TargetBytes,
+    sent: &mut FrameBytes,
+    ledger: &mut Ledger,
+    reply: &mut [u8],
+    call: Line,
+) -> Turn
     requires { ⌜ length (now line) < longest ⌝ }
-    ensures turn { λ r. ⌜ r ≡ callTurn (now (line .entry)) j (now (reply .entry)) call .turn ⌝ }
-    ensures reply { λ r. ⌜ now (reply .exit) ≡ callTurn (now (line .entry)) j (now (reply .entry)) call .reply ⌝ }
+    ensures turn { λ r. ⌜ turned r (now (connect .exit)) (now (targets .exit)) (tablesOf (now (ledger .exit))) (now (ledger .exit)) (now (sent .exit)) ≡ callTurn (now (line .entry)) (whole j (now (connect .entry)) (now (targets .entry)) (tablesOf (now (ledger .entry))) (now (ledger .entry)) (now (sent .entry))) (now (reply .entry)) call .turn ⌝ }
+    ensures reply { λ r. ⌜ now (reply .exit) ≡ callTurn (now (line .entry)) (whole j (now (connect .entry)) (now (targets .entry)) (tablesOf (now (ledger .entry))) (now (ledger .entry)) (now (sent .entry))) (now (reply .entry)) call .reply ⌝ }
 {
+    rows::known(ledger);
     match call {
         Line::Start {
             at,
             source,
             relay,
             circuit,
-        } => return start_turn(j, at, source, relay, circuit),
+        } => return start_turn(j, connect, targets, at, source, relay, circuit),
         Line::Up {
             at,
             peer,
@@ -482,8 +585,20 @@ fn make_call(line: &[u8], j: Journal, reply: &mut [u8], call: Line) -> Turn
             own,
             ..
         } => {
-            let host = host_at(line, at, live, offer, own);
-            return up_turn(j, host, peer, conn, circuit);
+            return up_line(
+                line,
+                j,
+                connect,
+                sent,
+                ledger,
+                at,
+                live,
+                offer,
+                own,
+                peer,
+                conn,
+                circuit,
+            );
         }
         Line::Input {
             at,
@@ -495,8 +610,23 @@ fn make_call(line: &[u8], j: Journal, reply: &mut [u8], call: Line) -> Turn
             pending,
             own,
         } => {
-            let host = host_at(line, at, live, offer, own);
-            return input_turn(line, j, host, reply, stream, kind, bytes, pending);
+            return input_line(
+                line,
+                j,
+                connect,
+                targets,
+                sent,
+                ledger,
+                reply,
+                at,
+                live,
+                offer,
+                own,
+                stream,
+                kind,
+                bytes,
+                pending,
+            );
         }
         Line::Tick {
             at,
@@ -504,8 +634,7 @@ fn make_call(line: &[u8], j: Journal, reply: &mut [u8], call: Line) -> Turn
             offer,
             own,
         } => {
-            let host = host_at(line, at, live, offer, own);
-            return tick_turn(j, host);
+            return tick_line(line, j, connect, sent, ledger, at, live, offer, own);
         }
         Line::Wrote { at, conn, stream } => return wrote_turn(j, at, conn, stream),
         Line::Down { conn, .. } => return down_turn(j, conn),
@@ -514,44 +643,65 @@ fn make_call(line: &[u8], j: Journal, reply: &mut [u8], call: Line) -> Turn
             token,
             id,
             ..
-        } => return dial_turn(j, conn, token, id),
-        Line::Forget { conn, .. } => return forget_turn(j, conn),
+        } => return dial_turn(j, ledger, conn, token, id),
+        Line::Forget { conn, .. } => return forget_turn(j, ledger, conn),
         Line::Attribute {
             at,
             peer,
             conn,
             circuit,
-        } => return attribute_turn(j, at, peer, conn, circuit),
-        Line::Unknown => return refuse(j, Refusal::UnknownLine),
+        } => return attribute_turn(j, ledger, at, peer, conn, circuit),
+        Line::Unknown => return say(j, Said::Refused(Refusal::UnknownLine)),
     }
 }
 
-fn take_call(line: &[u8], j: Journal, reply: &mut [u8], call: Line) -> Turn
+fn take_call(
+    line: &[u8],
+    j: State,
+    connect: &mut FrameBytes,
+    targets: &mut TargetBytes,
+    sent: &mut FrameBytes,
+    ledger: &mut Ledger,
+    reply: &mut [u8],
+    call: Line,
+) -> Turn
     requires { ⌜ length (now line) < longest ⌝ }
-    ensures turn { λ r. ⌜ r ≡ turnOf (now (line .entry)) j (now (reply .entry)) call .turn ⌝ }
-    ensures reply { λ r. ⌜ now (reply .exit) ≡ turnOf (now (line .entry)) j (now (reply .entry)) call .reply ⌝ }
+    ensures turn { λ r. ⌜ turned r (now (connect .exit)) (now (targets .exit)) (tablesOf (now (ledger .exit))) (now (ledger .exit)) (now (sent .exit)) ≡ turnOf (now (line .entry)) (whole j (now (connect .entry)) (now (targets .entry)) (tablesOf (now (ledger .entry))) (now (ledger .entry)) (now (sent .entry))) (now (reply .entry)) call .turn ⌝ }
+    ensures reply { λ r. ⌜ now (reply .exit) ≡ turnOf (now (line .entry)) (whole j (now (connect .entry)) (now (targets .entry)) (tablesOf (now (ledger .entry))) (now (ledger .entry)) (now (sent .entry))) (now (reply .entry)) call .reply ⌝ }
 {
     if needs_start(call) {
         if j.begun {
-            return make_call(line, j, reply, call);
+            return make_call(line, j, connect, targets, sent, ledger, reply, call);
         }
-        return refuse(j, Refusal::NotStarted);
+        return say(j, Said::Refused(Refusal::NotStarted));
     }
-    make_call(line, j, reply, call)
+    make_call(line, j, connect, targets, sent, ledger, reply, call)
 }
 
 // A line behind the first, without its line feed; `ended` is whether it had one.
-pub fn take_line(j: Journal, reply: &mut [u8], line: &[u8], ended: bool) -> Turn
-    ensures turn { λ r. ⌜ r ≡ lineTurn j (now (reply .entry)) (now (line .entry)) ended .turn ⌝ }
-    ensures reply { λ r. ⌜ now (reply .exit) ≡ lineTurn j (now (reply .entry)) (now (line .entry)) ended .reply ⌝ }
+pub fn take_line(
+    j: State,
+    connect: &mut FrameBytes,
+    targets: &mut TargetBytes,
+    sent: &mut FrameBytes,
+    ledger: &mut Ledger,
+    reply: &mut [u8],
+    line: &[u8],
+    ended: bool,
+) -> Turn
+    ensures turn { λ r. ⌜ turned r (now (connect .exit)) (now (targets .exit)) (tablesOf (now (ledger .exit))) (now (ledger .exit)) (now (sent .exit)) ≡ lineTurn (whole j (now (connect .entry)) (now (targets .entry)) (tablesOf (now (ledger .entry))) (now (ledger .entry)) (now (sent .entry))) (now (reply .entry)) (now (line .entry)) ended .turn ⌝ }
+    ensures reply { λ r. ⌜ now (reply .exit) ≡ lineTurn (whole j (now (connect .entry)) (now (targets .entry)) (tablesOf (now (ledger .entry))) (now (ledger .entry)) (now (sent .entry))) (now (reply .entry)) (now (line .entry)) ended .reply ⌝ }
 {
-    let next = count(j);
+    let next = State {
+        n: one_more(j.n),
+        ..j
+    };
     if ended {
         if line.len() < lines::LONGEST {
             let call = journal_lines::read_call(line);
-            return take_call(line, next, reply, call);
+            return take_call(line, next, connect, targets, sent, ledger, reply, call);
         }
-        return refuse(next, Refusal::UnknownLine);
+        return say(next, Said::Refused(Refusal::UnknownLine));
     }
-    refuse(next, Refusal::UnknownLine)
+    say(next, Said::Refused(Refusal::UnknownLine))
 }

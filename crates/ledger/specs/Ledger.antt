@@ -1,4 +1,6 @@
--- The calls of the ledger (RULES.md, section 10). Each is an equation for every ledger.
+-- The calls of the ledger (RULES.md, section 10), on the rows of its three tables.
+-- ---- the three tables (section 10.1)
+-- the rows in use
 use Prim.Native.Nat.{ℕ}
 use mathlib.Core.Bool.{Bool}
 use mathlib.Core.List.{List, []}
@@ -13,62 +15,96 @@ use Rattle.ids.specs.declared.NatToken.{NatToken}
 use Rattle.path.specs.declared.Attribution.{Attribution}
 use Rattle.path.specs.declared.DialPurpose.{DialPurpose}
 use Rattle.path.specs.declared.Claim.{Claim}
+use Rattle.path.specs.declared.FoundDial.{FoundDial}
 use Rattle.path.specs.declared.FoundPath.{FoundPath}
 use Rattle.path.specs.declared.FoundPath.the-variants.{At as PathAt, None as NoPath}
 use Rattle.path.specs.declared.Replaced.{Replaced}
 use Rattle.path.specs.Judged.{judged, upgradeOf, punchedAt}
-use Rattle.rows.specs.declared.Entry.the-variants.{Dialed, Window}
-use Rattle.rows.specs.declared.Entry.the-variants.{Path as PathEntry}
+use Rattle.rows.specs.declared.Entry.the-variants.{Dialed, Window, Path as PathEntry}
 use Rattle.rows.specs.declared.Row.{Row}
-use Rattle.rows.specs.declared.Table.{Table}
+use Rattle.rows.specs.declared.Table.the-variants.{Dials, Windows, Paths}
 use Rattle.rows.specs.declared.Keep.the-variants.{Lasting}
-use Rattle.rows.specs.Rows.{rowsOf, tableOf, kept, without, inserted, crowded}
-use Rattle.entries.specs.declared.Deadline.{Deadline}
-use Rattle.dials.specs.declared.Dropped.{Dropped}
+use Rattle.rows.specs.Kinds.{rowOf}
+use Rattle.rows.specs.Rows.{kept, without, inserted, crowded}
+use Rattle.rows.specs.Words.{rowsOf}
+use Rattle.vocabulary.specs.declared.Deadline.{Deadline}
+use Rattle.dials.specs.declared.Tokens.{Tokens}
+use Rattle.dials.specs.declared.Connections.{Connections}
 use Rattle.dials.specs.declared.Firsts.{Firsts}
 use Rattle.dials.specs.declared.FirstLive.{FirstLive}
-use Rattle.dials.specs.Dials.{pairs, abortWith, abortOf}
+use Rattle.dials.specs.declared.First.{First}
+use Rattle.dials.specs.Dials.{each, leftOf, retiredOf, closedOf, tokensOf, connectionsOf, pairs, withFirsts}
 use Rattle.entries.specs.Entries.{dialAt, pathAt, windowOpen, punchEnd, soonest}
-use Rattle.ledger.specs.declared.PathLedger.{PathLedger}
-use Rattle.ledger.specs.declared.Outcome.the-variants.{Accepted, Refused}
-use Rattle.ledger.specs.declared.Recorded.{Recorded}
-use Rattle.ledger.specs.declared.Finished.{Finished}
-use Rattle.ledger.specs.declared.Aborted.{Aborted}
+use Rattle.vocabulary.specs.declared.Outcome.{Outcome}
+use Rattle.vocabulary.specs.declared.Outcome.the-variants.{Accepted, Refused}
+use Rattle.ledger.specs.declared.Answer.{Answer}
 use Rattle.ledger.specs.declared.Answer.the-variants.{Path as Named, None as Unnamed, Refused as NotNamed}
-use Rattle.ledger.specs.declared.Attributed.{Attributed}
-use Rattle.ledger.specs.declared.Forgotten.{Forgotten}
+use Rattle.rows.specs.Words as words
 
--- ---- the three tables (section 10.1)
-unfoldable pub emptyLedger : PathLedger
-emptyLedger = record { dials = tableOf []; windows = tableOf []; paths = tableOf [] }
+pub record PathLedger : Type 0 where
+  pub dials : List Row
+  pub windows : List Row
+  pub paths : List Row
 
--- the rows in use
 abbrev pub dialsOf : PathLedger → List Row
-dialsOf l = rowsOf (l .dials)
+dialsOf l = l .dials
 
 abbrev pub windowsOf : PathLedger → List Row
-windowsOf l = rowsOf (l .windows)
+windowsOf l = l .windows
 
 abbrev pub pathsOf : PathLedger → List Row
-pathsOf l = rowsOf (l .paths)
+pathsOf l = l .paths
 
-abbrev pub withDials : PathLedger → Table → PathLedger
-withDials l t = record { dials = t; windows = l .windows; paths = l .paths }
+unfoldable pub emptyLedger : PathLedger
+emptyLedger = record { dials = []; windows = []; paths = [] }
 
-abbrev pub withWindows : PathLedger → Table → PathLedger
-withWindows l t = record { dials = l .dials; windows = t; paths = l .paths }
+-- the tables of a ledger's words
+abbrev pub tablesOf : List ℕ → PathLedger
+tablesOf ws = record { dials = rowsOf Dials ws; windows = rowsOf Windows ws; paths = rowsOf Paths ws }
 
-abbrev pub withPaths : PathLedger → Table → PathLedger
-withPaths l t = record { dials = l .dials; windows = l .windows; paths = t }
+-- the words with these tables laid in them (section 10.9)
+unfoldable pub laid : PathLedger → List ℕ → List ℕ
+laid l ws = words.laid Dials (l .dials) (words.laid Windows (l .windows) (words.laid Paths (l .paths) ws))
+
+abbrev pub withDials : PathLedger → List Row → PathLedger
+withDials l rs = record { dials = rs; windows = l .windows; paths = l .paths }
+
+abbrev pub withWindows : PathLedger → List Row → PathLedger
+withWindows l rs = record { dials = l .dials; windows = rs; paths = l .paths }
+
+abbrev pub withPaths : PathLedger → List Row → PathLedger
+withPaths l rs = record { dials = l .dials; windows = l .windows; paths = rs }
 
 abbrev pub dialRow : ConnectionId → NatToken → DialPurpose → Row
-dialRow conn token purpose = record { key = conn .0; entry = Dialed (record { token = token; purpose = purpose }) }
+dialRow conn token purpose = rowOf (conn .0) (Dialed (record { token = token; purpose = purpose }))
 
 abbrev pub windowRow : PeerId → ℕ → Row
-windowRow peer end = record { key = peer .0; entry = Window end }
+windowRow peer end = rowOf (peer .0) (Window end)
 
 abbrev pub pathRow : ConnectionId → Attribution → Row
-pathRow conn attribution = record { key = conn .0; entry = PathEntry attribution }
+pathRow conn attribution = rowOf (conn .0) (PathEntry attribution)
+
+-- ---- what a call leaves, and what it answers
+pub record Recorded : Type 0 where
+  pub ledger : PathLedger
+  pub outcome : Outcome
+
+pub record Finished : Type 0 where
+  pub ledger : PathLedger
+  pub dial : FoundDial
+
+pub record Aborted : Type 0 where
+  pub ledger : PathLedger
+  pub retired : Tokens
+  pub close : Connections
+
+pub record Attributed : Type 0 where
+  pub ledger : PathLedger
+  pub answer : Answer
+
+pub record Forgotten : Type 0 where
+  pub ledger : PathLedger
+  pub path : FoundPath
 
 -- ---- dials (sections 10.2 and 10.4)
 -- the ledger as it was, and number 4, where a 65th row would be needed
@@ -76,20 +112,24 @@ abbrev pub fullOr : Bool → PathLedger → PathLedger → Recorded
 fullOr full l changed = pick full (record { ledger = l; outcome = Refused LedgerFull }) (record { ledger = changed; outcome = Accepted })
 
 unfoldable pub dialStarted : PathLedger → ConnectionId → NatToken → DialPurpose → Recorded
-dialStarted l conn token purpose = fullOr (crowded (conn .0) (dialsOf l)) l (withDials l (tableOf (inserted (dialRow conn token purpose) (dialsOf l))))
+dialStarted l conn token purpose = fullOr (crowded (conn .0) (dialsOf l)) l (withDials l (inserted (dialRow conn token purpose) (dialsOf l)))
 
 unfoldable pub finishDial : PathLedger → ConnectionId → Finished
-finishDial l conn = record { ledger = withDials l (tableOf (without (conn .0) (dialsOf l))); dial = dialAt conn (dialsOf l) }
+finishDial l conn = record { ledger = withDials l (without (conn .0) (dialsOf l)); dial = dialAt conn (dialsOf l) }
 
--- the dials that are left take the place of the table's
-abbrev pub withDropped : PathLedger → Dropped → Aborted
-withDropped l dropped = record { ledger = withDials l (dropped .dials); retired = dropped .retired; close = dropped .close }
+-- the dials that are left, the tokens of those that are retired and the connections to close
+abbrev pub aborted : PathLedger → ConnectId → List (Row × First) → Aborted
+aborted l id ps = record {
+  ledger = withDials l (each (leftOf id) ps);
+  retired = tokensOf (each (retiredOf id) ps);
+  close = connectionsOf (each (closedOf id) ps);
+}
 
 unfoldable pub abortedWith : PathLedger → ConnectId → Firsts → Aborted
-abortedWith l id firsts = withDropped l (abortWith id (pairs (dialsOf l) (firsts .rows)))
+abortedWith l id firsts = aborted l id (pairs (dialsOf l) (firsts .rows))
 
 unfoldable pub abortedDials : PathLedger → ConnectId → PeerId → (PeerId → FirstLive) → Aborted
-abortedDials l id target first = withDropped l (abortOf id target first (dialsOf l))
+abortedDials l id target first = aborted l id (withFirsts target first (dialsOf l))
 
 -- ---- windows (section 10.3)
 unfoldable pub refusesPunches : PathLedger → PeerId → Bool
@@ -97,13 +137,13 @@ refusesPunches l peer = crowded (peer .0) (windowsOf l)
 
 unfoldable pub expectPunches : PathLedger → PeerId → ℕ → Recorded
 expectPunches l peer until =
-    fullOr (refusesPunches l peer) l (withWindows l (tableOf (inserted (windowRow peer (punchEnd peer until (windowsOf l))) (windowsOf l))))
+    fullOr (refusesPunches l peer) l (withWindows l (inserted (windowRow peer (punchEnd peer until (windowsOf l))) (windowsOf l)))
 
 unfoldable pub endPunches : PathLedger → PeerId → PathLedger
-endPunches l peer = withWindows l (tableOf (without (peer .0) (windowsOf l)))
+endPunches l peer = withWindows l (without (peer .0) (windowsOf l))
 
 unfoldable pub ticked : PathLedger → ℕ → PathLedger
-ticked l now = withWindows l (tableOf (kept (Lasting now) (windowsOf l)))
+ticked l now = withWindows l (kept (Lasting now) (windowsOf l))
 
 unfoldable pub nextDeadline : PathLedger → Deadline
 nextDeadline l = soonest (windowsOf l)
@@ -121,7 +161,7 @@ recorded l conn NoPath = record { ledger = l; answer = Unnamed }
 recorded l conn (PathAt attribution) =
     pick (crowded (conn .0) (pathsOf l))
     (record { ledger = l; answer = NotNamed LedgerFull })
-    (record { ledger = withPaths l (tableOf (inserted (pathRow conn attribution) (pathsOf l))); answer = Named attribution })
+    (record { ledger = withPaths l (inserted (pathRow conn attribution) (pathsOf l)); answer = Named attribution })
 
 unfoldable pub attributed : PathLedger → ConnectionId → PeerId → Bool → Claim → ℕ → Attributed
 attributed l conn peer circuit claim now = recorded l conn (judgedBy l conn peer circuit claim now)
@@ -132,9 +172,9 @@ replacedBy l old new = upgradeOf old (pathAt new (pathsOf l))
 unfoldable pub forgotten : PathLedger → ConnectionId → Forgotten
 forgotten l conn = record {
   ledger = record {
-    dials = tableOf (without (conn .0) (dialsOf l));
+    dials = without (conn .0) (dialsOf l);
     windows = l .windows;
-    paths = tableOf (without (conn .0) (pathsOf l));
+    paths = without (conn .0) (pathsOf l);
   };
   path = pathAt conn (pathsOf l);
 }

@@ -13,23 +13,22 @@ use Rattle.refusal.specs.declared.Refusal.{Refusal}
 use Rattle.ids.specs.declared.NatToken.{NatToken}
 use Rattle.ids.specs.declared.ConnectionId.{ConnectionId}
 use Rattle.path.specs.declared.Owner.{Owner}
-use Rattle.path.specs.declared.Owner.the-variants as owner
 use Rattle.path.specs.declared.Path.{Path}
-use Rattle.path.specs.declared.Path.the-variants as path
 use Rattle.path.specs.declared.DialPurpose.{DialPurpose}
-use Rattle.path.specs.declared.DialPurpose.the-variants as purpose
 use Rattle.path.specs.declared.Dial.{Dial}
 use Rattle.path.specs.declared.Attribution.{Attribution}
 use Rattle.rows.specs.declared.Entry.{Entry}
-use Rattle.rows.specs.declared.Entry.the-variants as entry
 use Rattle.rows.specs.declared.Row.{Row}
-use Rattle.rows.specs.declared.Table.{Table}
-use Rattle.rows.specs.Rows.{rowsOf}
+use Rattle.rows.specs.Kinds.{entryOf}
 use Rattle.dials.specs.declared.Tokens.{Tokens}
 use Rattle.dials.specs.declared.Connections.{Connections}
-use Rattle.ledger.specs.declared.PathLedger.{PathLedger}
+use Rattle.ledger.specs.Ledger.{PathLedger}
 use Rattle.ledger_answers.specs.declared.Said.{Said}
 use Rattle.ledger_answers.specs.declared.Said.the-variants.{Done, Refused, Nothing, Dial as SaidDial, Unnamed, Name, Upgrade, Yes, At, Ledger, Bad}
+use Rattle.path.specs.declared.Owner.the-variants as owner
+use Rattle.path.specs.declared.Path.the-variants as path
+use Rattle.path.specs.declared.DialPurpose.the-variants as purpose
+use Rattle.rows.specs.declared.Entry.the-variants as entry
 
 abbrev pub ownerText : Owner → List ℕ
 ownerText (owner.Attempt id) = decimal (id .0)
@@ -95,16 +94,16 @@ separator i = pick (eqb i 0) (ascii "") (ascii ",")
 
 -- ---- the tables: a row is its key and what it says, colons between
 abbrev pub entryText : Entry → List ℕ
-entryText entry.Free = ascii ""
+entryText entry.Other = ascii ""
 entryText (entry.Dialed dial) = keyed (ascii ":") (dial .token .0) ++ ascii ":" ++ purposeText (dial .purpose)
 entryText (entry.Window end) = keyed (ascii ":") end
 entryText (entry.Path name) = ascii ":" ++ pathText (name .path) ++ ascii ":" ++ ownerText (name .owner)
 
 abbrev pub rowText : Row → List ℕ
-rowText row = decimal (row .key) ++ entryText (row .entry)
+rowText row = decimal (row .key) ++ entryText (entryOf row)
 
-unfoldable pub rowsText : Table → List ℕ
-rowsText table = joined (map rowText (rowsOf table))
+unfoldable pub rowsText : List Row → List ℕ
+rowsText rs = joined (map rowText rs)
 
 abbrev pub ledgerText : PathLedger → List ℕ
 ledgerText l = ascii "dials=" ++ rowsText (l .dials) ++ ascii " windows=" ++ rowsText (l .windows) ++ ascii " paths=" ++ rowsText (l .paths)

@@ -4,10 +4,12 @@ ghost use mathlib.Core.Path.{_≡_};
 ghost use Prim.Native.Nat.{_≤_};
 ghost use lib.ListN.{length};
 ghost use Rattle.text.specs.Printed.{printed, behind};
+ghost use Rattle.rows.specs.Words.{rowsOf};
+ghost use Rattle.ledger.specs.Ledger.{tablesOf};
 ghost use Rattle.ledger_answers.specs.Answers.{separator, ownerText, pathText, pathFields, purposeText, purposeFields, yesText, refusedText, nameText, dialText, upgradeText, saidWords, saidText, entryText, rowText, rowsText, ledgerText, tokensIn, connectionsIn, tokensText, connectionsText, droppedText};
 use dials::Connections;
 use dials::Tokens;
-use ledger::PathLedger;
+use ledger::Ledger;
 use path::Attribution;
 use path::Dial;
 use path::DialPurpose;
@@ -15,6 +17,7 @@ use path::Owner;
 use path::Path;
 use refusal::Refusal;
 use rows::Entry;
+use rows::ROWS;
 use rows::Row;
 use rows::Table;
 
@@ -155,7 +158,7 @@ fn put_entry(entry: Entry, out: &mut [u8], at: usize) -> usize
     ensures place { λ r. ⌜ r ≡ behind (now (out .entry)) at (entryText entry) ⌝ }
 {
     match entry {
-        Entry::Free => text::put_text(b"", out, at),
+        Entry::Other => text::put_text(b"", out, at),
         Entry::Dialed(dial) => {
             let token = dial.token;
             let purpose = dial.purpose;
@@ -179,23 +182,22 @@ fn put_row(row: Row, out: &mut [u8], at: usize) -> usize
     ensures bytes { λ r. ⌜ now (out .exit) ≡ printed (now (out .entry)) at (rowText row) ⌝ }
     ensures place { λ r. ⌜ r ≡ behind (now (out .entry)) at (rowText row) ⌝ }
 {
-    let entry = row.entry;
     let p = text::put_decimal(row.key, out, at);
-    put_entry(entry, out, p)
+    put_entry(rows::entry_of(row), out, p)
 }
 
-fn put_rows(table: Table, out: &mut [u8], at: usize) -> usize
-    ensures bytes { λ r. ⌜ now (out .exit) ≡ printed (now (out .entry)) at (rowsText table) ⌝ }
-    ensures place { λ r. ⌜ r ≡ behind (now (out .entry)) at (rowsText table) ⌝ }
+fn put_rows(l: &Ledger, table: Table, out: &mut [u8], at: usize) -> usize
+    ensures bytes { λ r. ⌜ now (out .exit) ≡ printed (now (out .entry)) at (rowsText (rowsOf table (now (l .entry)))) ⌝ }
+    ensures place { λ r. ⌜ r ≡ behind (now (out .entry)) at (rowsText (rowsOf table (now (l .entry)))) ⌝ }
 {
-    let n = rows::used(table);
+    let n = rows::used(l, table);
     if n == 0 {
         return text::put_text(b"-", out, at);
     }
     let mut p = at;
     let mut i: usize = 0;
     while i < n {
-        let row = table.rows[i];
+        let row = rows::row_at(l, table, i);
         p = put_separator(i, out, p);
         p = put_row(row, out, p);
         i += 1;
@@ -203,19 +205,16 @@ fn put_rows(table: Table, out: &mut [u8], at: usize) -> usize
     p
 }
 
-fn put_ledger(l: PathLedger, out: &mut [u8], at: usize) -> usize
-    ensures bytes { λ r. ⌜ now (out .exit) ≡ printed (now (out .entry)) at (ledgerText l) ⌝ }
-    ensures place { λ r. ⌜ r ≡ behind (now (out .entry)) at (ledgerText l) ⌝ }
+fn put_ledger(l: &Ledger, out: &mut [u8], at: usize) -> usize
+    ensures bytes { λ r. ⌜ now (out .exit) ≡ printed (now (out .entry)) at (ledgerText (tablesOf (now (l .entry)))) ⌝ }
+    ensures place { λ r. ⌜ r ≡ behind (now (out .entry)) at (ledgerText (tablesOf (now (l .entry)))) ⌝ }
 {
-    let dials = l.dials;
-    let windows = l.windows;
-    let paths = l.paths;
     let p = text::put_text(b"dials=", out, at);
-    let p = put_rows(dials, out, p);
+    let p = put_rows(l, Table::Dials, out, p);
     let p = text::put_text(b" windows=", out, p);
-    let p = put_rows(windows, out, p);
+    let p = put_rows(l, Table::Windows, out, p);
     let p = text::put_text(b" paths=", out, p);
-    put_rows(paths, out, p)
+    put_rows(l, Table::Paths, out, p)
 }
 
 // ---- answers
@@ -235,9 +234,9 @@ pub enum Said {
     Bad,
 }
 
-fn put_words(l: PathLedger, said: Said, out: &mut [u8], at: usize) -> usize
-    ensures bytes { λ r. ⌜ now (out .exit) ≡ printed (now (out .entry)) at (saidWords l said) ⌝ }
-    ensures place { λ r. ⌜ r ≡ behind (now (out .entry)) at (saidWords l said) ⌝ }
+fn put_words(l: &Ledger, said: Said, out: &mut [u8], at: usize) -> usize
+    ensures bytes { λ r. ⌜ now (out .exit) ≡ printed (now (out .entry)) at (saidWords (tablesOf (now (l .entry))) said) ⌝ }
+    ensures place { λ r. ⌜ r ≡ behind (now (out .entry)) at (saidWords (tablesOf (now (l .entry))) said) ⌝ }
 {
     match said {
         Said::Done => text::put_text(b"ok", out, at),
@@ -254,9 +253,9 @@ fn put_words(l: PathLedger, said: Said, out: &mut [u8], at: usize) -> usize
     }
 }
 
-pub fn put_said(l: PathLedger, said: Said, out: &mut [u8]) -> usize
-    ensures bytes { λ r. ⌜ now (out .exit) ≡ printed (now (out .entry)) 0 (saidText l said) ⌝ }
-    ensures place { λ r. ⌜ r ≡ behind (now (out .entry)) 0 (saidText l said) ⌝ }
+pub fn put_said(l: &Ledger, said: Said, out: &mut [u8]) -> usize
+    ensures bytes { λ r. ⌜ now (out .exit) ≡ printed (now (out .entry)) 0 (saidText (tablesOf (now (l .entry))) said) ⌝ }
+    ensures place { λ r. ⌜ r ≡ behind (now (out .entry)) 0 (saidText (tablesOf (now (l .entry))) said) ⌝ }
 {
     let p = put_words(l, said, out, 0);
     text::put_text(b"\n", out, p)
@@ -268,19 +267,19 @@ pub fn put_said(l: PathLedger, said: Said, out: &mut [u8]) -> usize
 fn tokens_used(list: Tokens) -> usize
     ensures { λ r. ⌜ (r ≡ length (tokensIn list)) × (r ≤ 64) ⌝ }
 {
-    if list.count < 64 {
+    if list.count < ROWS as u64 {
         return list.count as usize;
     }
-    64
+    ROWS
 }
 
 fn connections_used(list: Connections) -> usize
     ensures { λ r. ⌜ (r ≡ length (connectionsIn list)) × (r ≤ 64) ⌝ }
 {
-    if list.count < 64 {
+    if list.count < ROWS as u64 {
         return list.count as usize;
     }
-    64
+    ROWS
 }
 
 fn put_tokens(list: Tokens, out: &mut [u8], at: usize) -> usize

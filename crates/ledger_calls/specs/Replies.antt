@@ -1,4 +1,5 @@
 -- What is answered to a line (README.md).
+-- the dials of an attempt dropped, over the live connections
 use Prim.Native.Nat.{ℕ}
 use mathlib.Core.List.{List}
 use mathlib.Core.Bool.{Bool}
@@ -7,20 +8,16 @@ use Rattle.prelude.specs.Choice.{pick}
 use Rattle.fields.specs.Fields.{part}
 use Rattle.ids.specs.declared.ConnectId.{ConnectId}
 use Rattle.ids.specs.declared.PeerId.{PeerId}
-use Rattle.ledger.specs.Ledger.{abortedDials}
-use Rattle.ledger.specs.declared.PathLedger.{PathLedger}
-use Rattle.ledger.specs.declared.Aborted.{Aborted}
+use Rattle.ledger.specs.Ledger.{PathLedger, Aborted, tablesOf, laid, abortedDials}
 use Rattle.live_dials.specs.declared.Live.{Live}
 use Rattle.live_dials.specs.First.{firstLive}
 use Rattle.ledger_lines.specs.Values.{liveIn}
 use Rattle.ledger_lines.specs.Calls.{abortOf, callOf}
 use Rattle.ledger_lines.specs.declared.Abort.{Abort}
-use Rattle.ledger_lines.specs.declared.Abort.the-variants as abort
 use Rattle.ledger_answers.specs.Answers.{saidText, droppedText}
-use Rattle.ledger_turns.specs.declared.Turn.{Turn}
-use Rattle.ledger_turns.specs.Turns.{turnOf}
+use Rattle.ledger_turns.specs.Turns.{Turn, turnOf, wordsAfter}
+use Rattle.ledger_lines.specs.declared.Abort.the-variants as abort
 
--- the dials of an attempt dropped, over the live connections
 unfoldable pub abortedBy : PathLedger → ConnectId → PeerId → List Live → Aborted
 abortedBy l id target live = abortedDials l id target (firstLive live)
 
@@ -40,6 +37,14 @@ ledgerAfter l line = replyBy l line (abortOf line) .0
 
 abbrev pub replyText : PathLedger → List ℕ → List ℕ
 replyText l line = replyBy l line (abortOf line) .1
+
+-- the ledger's words after a line
+abbrev pub wordsFor : List ℕ → List ℕ → Abort → List ℕ
+wordsFor ws line (abort.At id target start end) = laid (abortedBy (tablesOf ws) id target (liveIn (part line start end)) .ledger) ws
+wordsFor ws line abort.Bad = wordsAfter ws (callOf line)
+
+abbrev pub wordsBy : List ℕ → List ℕ → List ℕ
+wordsBy ws line = wordsFor ws line (abortOf line)
 
 -- how many bytes of a buffer are a line: it ended in a line feed, and does not fill the buffer
 abbrev pub wholeLength : ℕ → ℕ → Bool → ℕ

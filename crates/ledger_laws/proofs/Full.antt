@@ -19,14 +19,12 @@ use Rattle.path.specs.declared.Owner.{Owner}
 use Rattle.path.specs.Judged.{judged, circuitPath}
 use Rattle.path.specs.declared.FoundPath.{FoundPath}
 use Rattle.path.specs.declared.FoundPath.the-variants.{At as PathAt, None as NoPath}
-use Rattle.rows.specs.Rows.{tableOf, inserted, crowded}
+use Rattle.rows.specs.Rows.{inserted, crowded}
 use Rattle.rows.proofs.Laws.{crowded-is, is-crowded}
 use Rattle.entries.specs.Entries.{punchEnd}
-use Rattle.ledger.specs.declared.PathLedger.{PathLedger}
-use Rattle.ledger.specs.declared.Attributed.{Attributed}
-use Rattle.ledger.specs.declared.Outcome.the-variants.{Refused}
+use Rattle.ledger.specs.Ledger.{PathLedger, Attributed, dialsOf, windowsOf, pathsOf, withDials, withWindows, withPaths, dialRow, windowRow, pathRow, fullOr, dialStarted, refusesPunches, expectPunches, judgedBy, recorded, attributed}
+use Rattle.vocabulary.specs.declared.Outcome.the-variants.{Refused}
 use Rattle.ledger.specs.declared.Answer.the-variants.{Path as Named, None as Unnamed, Refused as NotNamed}
-use Rattle.ledger.specs.Ledger.{dialsOf, windowsOf, pathsOf, withDials, withWindows, withPaths, dialRow, windowRow, pathRow, fullOr, dialStarted, refusesPunches, expectPunches, judgedBy, recorded, attributed}
 use Rattle.ledger_laws.specs.Laws.{Needs65}
 
 refused-by : (full : Bool) (l changed : PathLedger) (why : Refusal) → fullOr full l changed .outcome ≡ Refused why → (numberOf why ≡ 4) × (fullOr full l changed .ledger ≡ l) × (full ≡ true)
@@ -43,7 +41,7 @@ pub dials-full : (l : PathLedger) → length (dialsOf l) ≤ 64 → (conn : Conn
 unfolding dialStarted
 dials-full l h conn token purpose =
     let full = crowded (conn .0) (dialsOf l) in
-    let changed = withDials l (tableOf (inserted (dialRow conn token purpose) (dialsOf l))) in (
+    let changed = withDials l (inserted (dialRow conn token purpose) (dialsOf l)) in (
       λ why e. let r = refused-by full l changed why e in (r .0, r .1, crowded-is (conn .0) (dialsOf l) h (r .2)),
       λ n. refused-when full l changed (is-crowded (conn .0) (dialsOf l) (n .0) (n .1)),
     )
@@ -54,13 +52,13 @@ pub windows-full : (l : PathLedger) → length (windowsOf l) ≤ 64 → (peer : 
 unfolding expectPunches refusesPunches
 windows-full l h peer until =
     let full = crowded (peer .0) (windowsOf l) in
-    let changed = withWindows l (tableOf (inserted (windowRow peer (punchEnd peer until (windowsOf l))) (windowsOf l))) in (
+    let changed = withWindows l (inserted (windowRow peer (punchEnd peer until (windowsOf l))) (windowsOf l)) in (
       λ why e. let r = refused-by full l changed why e in (r .0, r .1, crowded-is (peer .0) (windowsOf l) h (r .2)),
       λ n. refused-when full l changed (is-crowded (peer .0) (windowsOf l) (n .0) (n .1)),
     )
 
 abbrev named-or : Bool → PathLedger → ConnectionId → Attribution → Attributed
-named-or full l conn a = pick full (record { ledger = l; answer = NotNamed LedgerFull }) (record { ledger = withPaths l (tableOf (inserted (pathRow conn a) (pathsOf l))); answer = Named a })
+named-or full l conn a = pick full (record { ledger = l; answer = NotNamed LedgerFull }) (record { ledger = withPaths l (inserted (pathRow conn a) (pathsOf l)); answer = Named a })
 
 unnamed-by : (full : Bool) (l : PathLedger) (conn : ConnectionId) (a : Attribution) (why : Refusal) → named-or full l conn a .answer ≡ NotNamed why
     → (numberOf why ≡ 4) × (named-or full l conn a .ledger ≡ l) × (full ≡ true)

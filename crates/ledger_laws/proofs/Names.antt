@@ -1,11 +1,11 @@
 -- Why a connection has its name, what its row says, and what leaves it as it is. Assumes nothing.
-use Prim.Native.Nat.{ℕ, _≤_}
+-- ---- one of five cases
+use Prim.Native.Nat.{ℕ}
 use mathlib.Core.Path.{_≡_, refl, ap, sym, _∙_, subst}
 use mathlib.Core.Bool.{Bool, true, false}
 use mathlib.Core.List.{List, [], _∷_}
 use native.Mathlib.Omega.{arith}
 use borrow.Author.Tests.{eqb-false}
-use lib.ListN.{length}
 use lib.Dec.{eqb}
 use Rattle.prelude.specs.Choice.{pick, both, no}
 use Rattle.ids.specs.declared.PeerId.{PeerId}
@@ -22,28 +22,25 @@ use Rattle.path.specs.declared.FoundPath.the-variants.{At as PathAt, None as No
 use Rattle.path.specs.declared.Claim.{Claim}
 use Rattle.path.specs.declared.Claim.the-variants.{Circuit, Direct as DirectClaim, None as NoClaim}
 use Rattle.path.specs.Judged.{judged, circuitPath, directPath, byPurpose, byDial, byClaim, byWindow as windowPath, unowned}
+use Rattle.rows.specs.declared.Entry.the-variants.{Path as PathEntry}
 use Rattle.rows.specs.declared.Row.{Row}
-use Rattle.rows.specs.declared.Keep.the-variants.{Other, Lasting}
-use Rattle.rows.specs.Rows.{rowsOf, tableOf, findIn, such, keepsRow, without, inserted, crowded, lasts as lasting}
-use Rattle.rows.proofs.Lists.{such-≤, rows-tableOf}
-use Rattle.rows.proofs.Fill.{length-first}
-use Rattle.rows.proofs.Laws.{rows-all, find-inserted, find-inserted-other, find-without, find-without-other, inserted-fits}
+use Rattle.rows.specs.declared.Keep.the-variants.{Lasting}
+use Rattle.rows.specs.Kinds.{entryOf}
+use Rattle.rows.specs.Rows.{findIn, such, keepsRow, without, inserted, crowded, lasts as lasting}
+use Rattle.rows.proofs.Laws.{find-entered, find-inserted-other, find-without, find-without-other}
 use Rattle.entries.specs.Entries.{pathOf, pathAt, dialAt, endOf, endAt, windowOpen, punchEnd, lasts, readAs}
-use Rattle.ledger.specs.declared.PathLedger.{PathLedger}
+use Rattle.ledger.specs.Ledger.{PathLedger, Attributed, dialsOf, windowsOf, pathsOf, withWindows, withPaths, pathRow, windowRow, judgedBy, recorded, fullOr, refusesPunches, dialStarted, finishDial, abortedDials, expectPunches, endPunches, ticked, attributed, forgotten}
 use Rattle.refusal.specs.declared.Refusal.the-variants.{LedgerFull}
 use Rattle.rows.specs.declared.Found.the-variants.{Nothing}
-use Rattle.entries.specs.declared.Deadline.the-variants.{None as NoEnd}
-use Rattle.ledger.specs.declared.Attributed.{Attributed}
+use Rattle.vocabulary.specs.declared.Deadline.the-variants.{None as NoEnd}
 use Rattle.ledger.specs.declared.Answer.{Answer}
 use Rattle.ledger.specs.declared.Answer.the-variants.{Path as Named, Refused as NotNamed}
-use Rattle.ledger.specs.Ledger.{dialsOf, windowsOf, pathsOf, withDials, withWindows, withPaths, dialRow, pathRow, windowRow, judgedBy, recorded, fullOr, refusesPunches, dialStarted, finishDial, abortedDials, expectPunches, endPunches, ticked, attributed, forgotten}
 use Rattle.ledger_laws.specs.Calls.{Call, after, afterAll}
 use Rattle.ledger_laws.specs.Calls.Call.{dialStart, dialFinish, dialsAbort, punchesExpect, punchesEnd, tick, attribute, forget}
 use Rattle.ledger_laws.specs.Laws.{PunchDial, Why, spares, sparesAll, In}
 use Rattle.ledger_laws.specs.Laws.In.{here, there}
 use Rattle.ledger_laws.specs.Laws.Why.{relayed, byPunchDial, byAttempt, byWindow, otherwise}
 
--- ---- one of five cases
 unpunched-path : (dial : FoundDial) (claim : Claim) (lasting : Bool) → ((i : ConnectId) → PunchDial i dial → ⊥) → Why false dial claim lasting (byClaim claim (windowPath lasting unowned))
 unfolding byClaim windowPath
 unpunched-path dial (DirectClaim id) lasting n = byAttempt refl n refl
@@ -71,17 +68,17 @@ why true dial NoClaim lasting a e = let z : _≡_ {A = ℕ} 0 1 = cc in absurd (
 why false dial claim lasting a e = let q : directPath dial claim lasting ≡ a = cc in subst (Why false dial claim lasting) q (direct-why dial claim lasting)
 
 -- ---- the row that is left
-path-inserted : (conn : ConnectionId) (a : Attribution) (rs : List Row) → crowded (conn .0) rs ≡ false → pathAt conn (rowsOf (tableOf (inserted (pathRow conn a) rs))) ≡ PathAt a
+path-inserted : (conn : ConnectionId) (a : Attribution) (rs : List Row) → crowded (conn .0) rs ≡ false → pathAt conn (inserted (pathRow conn a) rs) ≡ PathAt a
 unfolding pathAt pathOf
-path-inserted conn a rs e = simp (rows-all (inserted (pathRow conn a) rs) (inserted-fits (pathRow conn a) rs e), find-inserted (pathRow conn a) rs)
+path-inserted conn a rs e = simp (find-entered (conn .0) (PathEntry a) rs)
 
 recorded-row : (l : PathLedger) (conn : ConnectionId) (found : FoundPath) (a : Attribution) → recorded l conn found .answer ≡ Named a → pathAt conn (pathsOf (recorded l conn found .ledger)) ≡ PathAt a
 recorded-row l conn NoPath a e = let z : _≡_ {A = ℕ} 0 1 = cc in absurd (omega arith)
 recorded-row l conn (PathAt b) a e = go (crowded (conn .0) (pathsOf l)) refl e
   where
     go : (full : Bool) → crowded (conn .0) (pathsOf l) ≡ full
-        → pick {A = Attributed} full (record { ledger = l; answer = NotNamed LedgerFull }) (record { ledger = withPaths l (tableOf (inserted (pathRow conn b) (pathsOf l))); answer = Named b }) .answer ≡ Named a
-        → pathAt conn (pathsOf (pick {A = Attributed} full (record { ledger = l; answer = NotNamed LedgerFull }) (record { ledger = withPaths l (tableOf (inserted (pathRow conn b) (pathsOf l))); answer = Named b }) .ledger)) ≡ PathAt a
+        → pick {A = Attributed} full (record { ledger = l; answer = NotNamed LedgerFull }) (record { ledger = withPaths l (inserted (pathRow conn b) (pathsOf l)); answer = Named b }) .answer ≡ Named a
+        → pathAt conn (pathsOf (pick {A = Attributed} full (record { ledger = l; answer = NotNamed LedgerFull }) (record { ledger = withPaths l (inserted (pathRow conn b) (pathsOf l)); answer = Named b }) .ledger)) ≡ PathAt a
     go true f q = let z : _≡_ {A = ℕ} 0 1 = cc in absurd (omega arith)
     go false f q = let r : b ≡ a = cc in path-inserted conn b (pathsOf l) f ∙ ap PathAt r
 
@@ -94,7 +91,7 @@ named-is : (l : PathLedger) (conn : ConnectionId) (found : FoundPath) (a : Attri
 named-is l conn NoPath a e = let z : _≡_ {A = ℕ} 0 1 = cc in absurd (omega arith)
 named-is l conn (PathAt b) a e = go (crowded (conn .0) (pathsOf l)) e
   where
-    go : (full : Bool) → pick {A = Attributed} full (record { ledger = l; answer = NotNamed LedgerFull }) (record { ledger = withPaths l (tableOf (inserted (pathRow conn b) (pathsOf l))); answer = Named b }) .answer ≡ Named a → PathAt b ≡ PathAt a
+    go : (full : Bool) → pick {A = Attributed} full (record { ledger = l; answer = NotNamed LedgerFull }) (record { ledger = withPaths l (inserted (pathRow conn b) (pathsOf l)); answer = Named b }) .answer ≡ Named a → PathAt b ≡ PathAt a
     go true q = let z : _≡_ {A = ℕ} 0 1 = cc in absurd (omega arith)
     go false q = let r : b ≡ a = cc in ap PathAt r
 
@@ -106,23 +103,23 @@ one-of-five l conn peer circuit claim now a e =
 
 -- ---- a name is kept
 path-elsewhere : (conn other : ConnectionId) (a : Attribution) → (conn .0 ≡ other .0 → ⊥) → (rs : List Row) → crowded (other .0) rs ≡ false
-    → pathAt conn (rowsOf (tableOf (inserted (pathRow other a) rs))) ≡ pathAt conn rs
+    → pathAt conn (inserted (pathRow other a) rs) ≡ pathAt conn rs
 unfolding pathAt
-path-elsewhere conn other a n rs e = simp (rows-all (inserted (pathRow other a) rs) (inserted-fits (pathRow other a) rs e), find-inserted-other (conn .0) (pathRow other a) n rs)
+path-elsewhere conn other a n rs e = simp (find-inserted-other (conn .0) (pathRow other a) n rs)
 
 named-elsewhere : (l : PathLedger) (conn other : ConnectionId) → (conn .0 ≡ other .0 → ⊥) → (found : FoundPath) → pathAt conn (pathsOf (recorded l other found .ledger)) ≡ pathAt conn (pathsOf l)
 named-elsewhere l conn other n NoPath = refl
 named-elsewhere l conn other n (PathAt a) = go (crowded (other .0) (pathsOf l)) refl
   where
     go : (full : Bool) → crowded (other .0) (pathsOf l) ≡ full
-        → pathAt conn (pathsOf (pick {A = Attributed} full (record { ledger = l; answer = NotNamed LedgerFull }) (record { ledger = withPaths l (tableOf (inserted (pathRow other a) (pathsOf l))); answer = Named a }) .ledger)) ≡ pathAt conn (pathsOf l)
+        → pathAt conn (pathsOf (pick {A = Attributed} full (record { ledger = l; answer = NotNamed LedgerFull }) (record { ledger = withPaths l (inserted (pathRow other a) (pathsOf l)); answer = Named a }) .ledger)) ≡ pathAt conn (pathsOf l)
     go true f = refl
     go false f = path-elsewhere conn other a n (pathsOf l) f
 
-forgotten-elsewhere : (conn other : ConnectionId) → (conn .0 ≡ other .0 → ⊥) → (rs : List Row) → length rs ≤ 64 → pathAt conn (rowsOf (tableOf (without (other .0) rs))) ≡ pathAt conn rs
+forgotten-elsewhere : (conn other : ConnectionId) → (conn .0 ≡ other .0 → ⊥) → (rs : List Row) → pathAt conn (without (other .0) rs) ≡ pathAt conn rs
 unfolding pathAt
-forgotten-elsewhere conn other n rs h =
-    simp (rows-all (without (other .0) rs) (omega (arith, such-≤ (keepsRow (Other (other .0))) rs)), find-without-other (conn .0) (other .0) n rs)
+forgotten-elsewhere conn other n rs =
+    simp (find-without-other (conn .0) (other .0) n rs)
 
 not-same : (conn other : ConnectionId) → no (eqb (conn .0) (other .0)) ≡ true → conn .0 ≡ other .0 → ⊥
 not-same conn other e = go (eqb (conn .0) (other .0)) refl e
@@ -135,24 +132,24 @@ same-paths : (conn : ConnectionId) (full : Bool) (l changed : PathLedger) → pa
 same-paths conn true l changed e = refl
 same-paths conn false l changed e = ap (pathAt conn) e
 
-name-kept : (l : PathLedger) → length (pathsOf l) ≤ 64 → (conn : ConnectionId) (c : Call) → spares conn c ≡ true → pathAt conn (pathsOf (after l c)) ≡ pathAt conn (pathsOf l)
+name-kept : (l : PathLedger) (conn : ConnectionId) (c : Call) → spares conn c ≡ true → pathAt conn (pathsOf (after l c)) ≡ pathAt conn (pathsOf l)
 unfolding after spares dialStarted finishDial abortedDials expectPunches endPunches ticked attributed forgotten
-name-kept l h conn (dialStart other token purpose) s = same-paths conn (crowded (other .0) (dialsOf l)) l _ refl
-name-kept l h conn (dialFinish other) s = refl
-name-kept l h conn (dialsAbort id target first) s = refl
-name-kept l h conn (punchesExpect peer until) s = same-paths conn (refusesPunches l peer) l _ refl
-name-kept l h conn (punchesEnd peer) s = refl
-name-kept l h conn (tick now) s = refl
-name-kept l h conn (attribute other peer circuit claim now) s = named-elsewhere l conn other (not-same conn other s) (judgedBy l other peer circuit claim now)
-name-kept l h conn (forget other) s = forgotten-elsewhere conn other (not-same conn other s) (pathsOf l) h
+name-kept l conn (dialStart other token purpose) s = same-paths conn (crowded (other .0) (dialsOf l)) l _ refl
+name-kept l conn (dialFinish other) s = refl
+name-kept l conn (dialsAbort id target first) s = refl
+name-kept l conn (punchesExpect peer until) s = same-paths conn (refusesPunches l peer) l _ refl
+name-kept l conn (punchesEnd peer) s = refl
+name-kept l conn (tick now) s = refl
+name-kept l conn (attribute other peer circuit claim now) s = named-elsewhere l conn other (not-same conn other s) (judgedBy l other peer circuit claim now)
+name-kept l conn (forget other) s = forgotten-elsewhere conn other (not-same conn other s) (pathsOf l)
 
 -- ---- nothing is left
-pub nothing-left : (l : PathLedger) → length (dialsOf l) ≤ 64 → length (pathsOf l) ≤ 64 → (conn : ConnectionId)
+pub nothing-left : (l : PathLedger) (conn : ConnectionId)
     → (findIn (conn .0) (dialsOf (forgotten l conn .ledger)) ≡ Nothing) × (findIn (conn .0) (pathsOf (forgotten l conn .ledger)) ≡ Nothing)
 unfolding forgotten
-nothing-left l d p conn = (
-  simp (rows-all (without (conn .0) (dialsOf l)) (omega (arith, such-≤ (keepsRow (Other (conn .0))) (dialsOf l)))) (find-without (conn .0) (dialsOf l)),
-  simp (rows-all (without (conn .0) (pathsOf l)) (omega (arith, such-≤ (keepsRow (Other (conn .0))) (pathsOf l)))) (find-without (conn .0) (pathsOf l)),
+nothing-left l conn = (
+  find-without (conn .0) (dialsOf l),
+  find-without (conn .0) (pathsOf l),
 )
 
 -- ---- another peer's window
@@ -164,9 +161,9 @@ window-elsewhere l peer other n until now = go (crowded (other .0) (windowsOf l)
     row = windowRow other (punchEnd other until (windowsOf l))
 
     go : (full : Bool) → crowded (other .0) (windowsOf l) ≡ full
-        → lasts now (readAs endOf NoEnd (findIn (peer .0) (windowsOf (fullOr full l (withWindows l (tableOf (inserted row (windowsOf l)))) .ledger)))) ≡ lasts now (readAs endOf NoEnd (findIn (peer .0) (windowsOf l)))
+        → lasts now (readAs endOf NoEnd (findIn (peer .0) (windowsOf (fullOr full l (withWindows l (inserted row (windowsOf l))) .ledger)))) ≡ lasts now (readAs endOf NoEnd (findIn (peer .0) (windowsOf l)))
     go true f = refl
-    go false f = simp (rows-all (inserted row (windowsOf l)) (inserted-fits row (windowsOf l) f), find-inserted-other (peer .0) row n (windowsOf l))
+    go false f = simp (find-inserted-other (peer .0) row n (windowsOf l))
 
 full-dials : (full : Bool) (l changed : PathLedger) → dialsOf changed ≡ dialsOf l → dialsOf (fullOr full l changed .ledger) ≡ dialsOf l
 full-dials true l changed e = refl
@@ -183,7 +180,7 @@ recorded-answer : (l : PathLedger) (conn : ConnectionId) (a : Attribution) → r
 unfolding answer-by
 recorded-answer l conn a = go (crowded (conn .0) (pathsOf l))
   where
-    go : (full : Bool) → pick {A = Attributed} full (record { ledger = l; answer = NotNamed LedgerFull }) (record { ledger = withPaths l (tableOf (inserted (pathRow conn a) (pathsOf l))); answer = Named a }) .answer ≡ pick full (NotNamed LedgerFull) (Named a)
+    go : (full : Bool) → pick {A = Attributed} full (record { ledger = l; answer = NotNamed LedgerFull }) (record { ledger = withPaths l (inserted (pathRow conn a) (pathsOf l)); answer = Named a }) .answer ≡ pick full (NotNamed LedgerFull) (Named a)
     go true = refl
     go false = refl
 
@@ -193,11 +190,11 @@ same-answer k l conn e (PathAt a) = recorded-answer k conn a ∙ ap (λ (rs : Li
 
 expect-dials : (l : PathLedger) (peer : PeerId) (until : ℕ) → dialsOf (expectPunches l peer until .ledger) ≡ dialsOf l
 unfolding expectPunches
-expect-dials l peer until = full-dials (refusesPunches l peer) l (withWindows l (tableOf (inserted (windowRow peer (punchEnd peer until (windowsOf l))) (windowsOf l)))) refl
+expect-dials l peer until = full-dials (refusesPunches l peer) l (withWindows l (inserted (windowRow peer (punchEnd peer until (windowsOf l))) (windowsOf l))) refl
 
 expect-paths : (l : PathLedger) (peer : PeerId) (until : ℕ) → pathsOf (expectPunches l peer until .ledger) ≡ pathsOf l
 unfolding expectPunches
-expect-paths l peer until = full-paths (refusesPunches l peer) l (withWindows l (tableOf (inserted (windowRow peer (punchEnd peer until (windowsOf l))) (windowsOf l)))) refl
+expect-paths l peer until = full-paths (refusesPunches l peer) l (withWindows l (inserted (windowRow peer (punchEnd peer until (windowsOf l))) (windowsOf l))) refl
 
 -- what is judged of a connection looks at the window of its own peer alone
 pub other-window : (l : PathLedger) (conn : ConnectionId) (peer other : PeerId) → (peer .0 ≡ other .0 → ⊥) → (circuit : Bool) (claim : Claim) (until now : ℕ)
@@ -210,48 +207,25 @@ other-window l conn peer other n circuit claim until now =
     ∙ same-answer k l conn (expect-paths l other until) (judged circuit (dialAt conn (dialsOf l)) claim (windowOpen peer now (windowsOf l)))
 
 -- a window of another peer that is closed
-pub other-closed : (l : PathLedger) → length (windowsOf l) ≤ 64 → (conn : ConnectionId) (peer other : PeerId) → (peer .0 ≡ other .0 → ⊥) → (circuit : Bool) (claim : Claim) (now : ℕ)
+pub other-closed : (l : PathLedger) (conn : ConnectionId) (peer other : PeerId) → (peer .0 ≡ other .0 → ⊥) → (circuit : Bool) (claim : Claim) (now : ℕ)
     → attributed (endPunches l other) conn peer circuit claim now .answer ≡ attributed l conn peer circuit claim now .answer
 unfolding attributed judgedBy endPunches windowOpen endAt
-other-closed l h conn peer other n circuit claim now =
+other-closed l conn peer other n circuit claim now =
     let k = endPunches l other in
-    let r : rowsOf (tableOf (without (other .0) (windowsOf l))) ≡ without (other .0) (windowsOf l) = rows-all (without (other .0) (windowsOf l)) (omega (arith, such-≤ (keepsRow (Other (other .0))) (windowsOf l))) in
-    let w : windowOpen peer now (rowsOf (tableOf (without (other .0) (windowsOf l)))) ≡ windowOpen peer now (windowsOf l) =
-    rw (r, find-without-other (peer .0) (other .0) n (windowsOf l))
+    let w : windowOpen peer now (without (other .0) (windowsOf l)) ≡ windowOpen peer now (windowsOf l) =
+    rw (find-without-other (peer .0) (other .0) n (windowsOf l))
     in
     ap (λ (t : Bool). recorded k conn (judged circuit (dialAt conn (dialsOf l)) claim t) .answer) w
     ∙ same-answer k l conn refl (judged circuit (dialAt conn (dialsOf l)) claim (windowOpen peer now (windowsOf l)))
 
 -- ---- over lists of calls
-table-64 : (rs : List Row) → length (rowsOf (tableOf rs)) ≤ 64
-table-64 rs = rw (rows-tableOf rs) (length-first 64 rs)
-
-recorded-64 : (l : PathLedger) → length (pathsOf l) ≤ 64 → (conn : ConnectionId) (found : FoundPath) → length (pathsOf (recorded l conn found .ledger)) ≤ 64
-recorded-64 l h conn NoPath = h
-recorded-64 l h conn (PathAt a) = go (crowded (conn .0) (pathsOf l))
-  where
-    go : (full : Bool) → length (pathsOf (pick {A = Attributed} full (record { ledger = l; answer = NotNamed LedgerFull }) (record { ledger = withPaths l (tableOf (inserted (pathRow conn a) (pathsOf l))); answer = Named a }) .ledger)) ≤ 64
-    go true = h
-    go false = table-64 (inserted (pathRow conn a) (pathsOf l))
-
-paths-64 : (l : PathLedger) → length (pathsOf l) ≤ 64 → (c : Call) → length (pathsOf (after l c)) ≤ 64
-unfolding after dialStarted finishDial abortedDials endPunches ticked attributed forgotten
-paths-64 l h (dialStart other token purpose) = rw (full-paths (crowded (other .0) (dialsOf l)) l (withDials l (tableOf (inserted (dialRow other token purpose) (dialsOf l)))) refl) h
-paths-64 l h (dialFinish other) = h
-paths-64 l h (dialsAbort id target first) = h
-paths-64 l h (punchesExpect peer until) = rw (expect-paths l peer until) h
-paths-64 l h (punchesEnd peer) = h
-paths-64 l h (tick now) = h
-paths-64 l h (attribute other peer circuit claim now) = recorded-64 l h other (judgedBy l other peer circuit claim now)
-paths-64 l h (forget other) = table-64 (without (other .0) (pathsOf l))
-
-pub name-kept-all : (l : PathLedger) → length (pathsOf l) ≤ 64 → (conn : ConnectionId) (cs : List Call) → sparesAll conn cs ≡ true → pathAt conn (pathsOf (afterAll l cs)) ≡ pathAt conn (pathsOf l)
+pub name-kept-all : (l : PathLedger) (conn : ConnectionId) (cs : List Call) → sparesAll conn cs ≡ true → pathAt conn (pathsOf (afterAll l cs)) ≡ pathAt conn (pathsOf l)
 unfolding afterAll sparesAll
-name-kept-all l h conn [] s = refl
-name-kept-all l h conn (c ∷ cs) s = go (spares conn c) refl (name-kept-all (after l c) (paths-64 l h c) conn cs) s
+name-kept-all l conn [] s = refl
+name-kept-all l conn (c ∷ cs) s = go (spares conn c) refl (name-kept-all (after l c) conn cs) s
   where
     go : (t : Bool) → spares conn c ≡ t → (sparesAll conn cs ≡ true → pathAt conn (pathsOf (afterAll (after l c) cs)) ≡ pathAt conn (pathsOf (after l c))) → both t (sparesAll conn cs) ≡ true → pathAt conn (pathsOf (afterAll (after l c) cs)) ≡ pathAt conn (pathsOf l)
-    go true e ih q = ih q ∙ name-kept l h conn c e
+    go true e ih q = ih q ∙ name-kept l conn c e
     go false e ih q = let z : _≡_ {A = ℕ} 0 1 = cc in absurd (omega arith)
 
 -- ---- the windows that are freed
@@ -273,9 +247,7 @@ such-in p r (x ∷ rs) e (there i) = go (p x) (such-in p r rs e i)
     go true j = there j
     go false j = j
 
-pub freed : (l : PathLedger) → length (windowsOf l) ≤ 64 → (now : ℕ) (r : Row)
-    → (In r (windowsOf (ticked l now)) → In r (windowsOf l) × (lasting now (r .entry) ≡ true)) × (In r (windowsOf l) → lasting now (r .entry) ≡ true → In r (windowsOf (ticked l now)))
+pub freed : (l : PathLedger) (now : ℕ) (r : Row)
+    → (In r (windowsOf (ticked l now)) → In r (windowsOf l) × (lasting now (entryOf r) ≡ true)) × (In r (windowsOf l) → lasting now (entryOf r) ≡ true → In r (windowsOf (ticked l now)))
 unfolding ticked
-freed l h now r =
-    let e = rows-all (such (keepsRow (Lasting now)) (windowsOf l)) (omega (arith, such-≤ (keepsRow (Lasting now)) (windowsOf l))) in
-    (λ i. in-such (keepsRow (Lasting now)) r (windowsOf l) (subst (In r) e i), λ i q. subst (In r) (sym e) (such-in (keepsRow (Lasting now)) r (windowsOf l) q i))
+freed l now r = (in-such (keepsRow (Lasting now)) r (windowsOf l), λ i q. such-in (keepsRow (Lasting now)) r (windowsOf l) q i)

@@ -1,4 +1,5 @@
 -- The tables stay ascending over calls from the empty ledger. Assumes nothing.
+-- what an abort leaves of the dials are some of them
 use mathlib.Core.Path.{_≡_, refl, ap, sym, subst}
 use mathlib.Core.Bool.{Bool, true, false}
 use mathlib.Core.List.{List, [], _∷_, _++_, map}
@@ -8,35 +9,21 @@ use Rattle.path.specs.declared.FoundPath.{FoundPath}
 use Rattle.path.specs.declared.FoundPath.the-variants.{At as PathAt, None as NoPath}
 use Rattle.ids.specs.declared.ConnectionId.{ConnectionId}
 use Rattle.rows.specs.declared.Row.{Row}
-use Rattle.rows.specs.Rows.{rowsOf, tableOf, such, crowded}
+use Rattle.rows.specs.Rows.{such, crowded}
 use Rattle.rows.specs.Ascending.{Ascending}
 use Rattle.rows.specs.Ascending.Ascending.{none}
-use Rattle.rows.proofs.Lists.{rows-tableOf}
-use Rattle.rows.proofs.Laws.{ascending-such, ascending-inserted, ascending-take}
+use Rattle.rows.proofs.Laws.{ascending-such, ascending-inserted}
 use Rattle.dials.specs.declared.First.{First}
 use Rattle.dials.specs.declared.Fate.{Fate}
 use Rattle.dials.specs.declared.Fate.the-variants.{Other as FateOther, Stays, Goes, Closes}
-use Rattle.dials.specs.Dials.{each, fateAt, leftBy, leftOf, firstFor, abortWith, abortOf}
-use Rattle.ledger.specs.declared.PathLedger.{PathLedger}
+use Rattle.dials.specs.Dials.{each, stays, fateAt, leftBy, leftOf, firstFor}
+use Rattle.ledger.specs.Ledger.{PathLedger, Attributed, emptyLedger, dialsOf, pathsOf, judgedBy, recorded, fullOr, refusesPunches, dialStarted, finishDial, abortedDials, expectPunches, endPunches, ticked, attributed, forgotten}
 use Rattle.refusal.specs.declared.Refusal.the-variants.{LedgerFull}
 use Rattle.ledger.specs.declared.Answer.{Answer}
 use Rattle.ledger.specs.declared.Answer.the-variants.{Path as Named, Refused as NotNamed}
-use Rattle.ledger.specs.declared.Attributed.{Attributed}
-use Rattle.ledger.specs.Ledger.{emptyLedger, dialsOf, pathsOf, judgedBy, recorded, fullOr, refusesPunches, dialStarted, finishDial, abortedDials, expectPunches, endPunches, ticked, attributed, forgotten}
 use Rattle.ledger_laws.specs.Calls.{Call, after, afterAll}
 use Rattle.ledger_laws.specs.Calls.Call.{dialStart, dialFinish, dialsAbort, punchesExpect, punchesEnd, tick, attribute, forget}
 use Rattle.ledger_laws.specs.Laws.{InOrder}
-
--- the table of ascending rows
-table-ascends : {rs : List Row} → Ascending rs → Ascending (rowsOf (tableOf rs))
-table-ascends {rs} a = subst Ascending (sym (rows-tableOf rs)) (ascending-take 64 a)
-
--- what an abort leaves of the dials are some of them
-stays : Fate → Bool
-stays FateOther = true
-stays (Stays token) = true
-stays (Goes token) = false
-stays (Closes token) = false
 
 left-such : (id : ConnectId) (g : Row → First) (rs : List Row) → each (leftOf id) (map (λ (r : Row). (r, g r)) rs) ≡ such (λ (r : Row). stays (fateAt id r (g r))) rs
 unfolding each such stays
@@ -66,25 +53,25 @@ module _ {l : PathLedger} (o : InOrder l) where
   named : (conn : ConnectionId) (found : FoundPath) → InOrder (recorded l conn found .ledger)
   named conn NoPath = o
   named conn (PathAt a) =
-      full-or-named (NotNamed LedgerFull) (Named a) (crowded (conn .0) (pathsOf l)) (record { dials-ascend = o .dials-ascend; windows-ascend = o .windows-ascend; paths-ascend = table-ascends (ascending-inserted _ (o .paths-ascend)) })
+      full-or-named (NotNamed LedgerFull) (Named a) (crowded (conn .0) (pathsOf l)) (record { dials-ascend = o .dials-ascend; windows-ascend = o .windows-ascend; paths-ascend = ascending-inserted _ (o .paths-ascend) })
 
   keeps-order : (c : Call) → InOrder (after l c)
-  unfolding after dialStarted finishDial abortedDials abortOf abortWith expectPunches endPunches ticked attributed forgotten
+  unfolding after dialStarted finishDial abortedDials expectPunches endPunches ticked attributed forgotten
   keeps-order (dialStart conn token purpose) =
-      full-or (crowded (conn .0) (dialsOf l)) (record { dials-ascend = table-ascends (ascending-inserted _ (o .dials-ascend)); windows-ascend = o .windows-ascend; paths-ascend = o .paths-ascend })
-  keeps-order (dialFinish conn) = record { dials-ascend = table-ascends (ascending-such _ (o .dials-ascend)); windows-ascend = o .windows-ascend; paths-ascend = o .paths-ascend }
+      full-or (crowded (conn .0) (dialsOf l)) (record { dials-ascend = ascending-inserted _ (o .dials-ascend); windows-ascend = o .windows-ascend; paths-ascend = o .paths-ascend })
+  keeps-order (dialFinish conn) = record { dials-ascend = ascending-such _ (o .dials-ascend); windows-ascend = o .windows-ascend; paths-ascend = o .paths-ascend }
   keeps-order (dialsAbort id target first) =
-      record { dials-ascend = subst (λ (rs : List Row). Ascending (rowsOf (tableOf rs))) (sym (left-such id (firstFor target first) (dialsOf l))) (table-ascends (ascending-such _ (o .dials-ascend))); windows-ascend = o .windows-ascend; paths-ascend = o .paths-ascend }
+      record { dials-ascend = subst Ascending (sym (left-such id (firstFor target first) (dialsOf l))) (ascending-such _ (o .dials-ascend)); windows-ascend = o .windows-ascend; paths-ascend = o .paths-ascend }
   keeps-order (punchesExpect peer until) =
-      full-or (refusesPunches l peer) (record { dials-ascend = o .dials-ascend; windows-ascend = table-ascends (ascending-inserted _ (o .windows-ascend)); paths-ascend = o .paths-ascend })
-  keeps-order (punchesEnd peer) = record { dials-ascend = o .dials-ascend; windows-ascend = table-ascends (ascending-such _ (o .windows-ascend)); paths-ascend = o .paths-ascend }
-  keeps-order (tick now) = record { dials-ascend = o .dials-ascend; windows-ascend = table-ascends (ascending-such _ (o .windows-ascend)); paths-ascend = o .paths-ascend }
+      full-or (refusesPunches l peer) (record { dials-ascend = o .dials-ascend; windows-ascend = ascending-inserted _ (o .windows-ascend); paths-ascend = o .paths-ascend })
+  keeps-order (punchesEnd peer) = record { dials-ascend = o .dials-ascend; windows-ascend = ascending-such _ (o .windows-ascend); paths-ascend = o .paths-ascend }
+  keeps-order (tick now) = record { dials-ascend = o .dials-ascend; windows-ascend = ascending-such _ (o .windows-ascend); paths-ascend = o .paths-ascend }
   keeps-order (attribute conn peer circuit claim now) = named conn (judgedBy l conn peer circuit claim now)
-  keeps-order (forget conn) = record { dials-ascend = table-ascends (ascending-such _ (o .dials-ascend)); windows-ascend = o .windows-ascend; paths-ascend = table-ascends (ascending-such _ (o .paths-ascend)) }
+  keeps-order (forget conn) = record { dials-ascend = ascending-such _ (o .dials-ascend); windows-ascend = o .windows-ascend; paths-ascend = ascending-such _ (o .paths-ascend) }
 
 pub empty-order : InOrder emptyLedger
 unfolding emptyLedger
-empty-order = record { dials-ascend = table-ascends none; windows-ascend = table-ascends none; paths-ascend = table-ascends none }
+empty-order = record { dials-ascend = none; windows-ascend = none; paths-ascend = none }
 
 pub all-order : (l : PathLedger) → InOrder l → (cs : List Call) → InOrder (afterAll l cs)
 unfolding afterAll

@@ -1,4 +1,5 @@
 -- Lists of calls of the ledger, and the ledgers that they lead to from the empty one (RULES.md, section 10.7).
+-- a call that may change the ledger, with its arguments; of the live connections, what is the first of each peer
 use Prim.Native.Nat.{ℕ}
 use mathlib.Core.Bool.{Bool}
 use mathlib.Core.List.{List, [], _∷_}
@@ -9,10 +10,8 @@ use Rattle.ids.specs.declared.NatToken.{NatToken}
 use Rattle.path.specs.declared.DialPurpose.{DialPurpose}
 use Rattle.path.specs.declared.Claim.{Claim}
 use Rattle.dials.specs.declared.FirstLive.{FirstLive}
-use Rattle.ledger.specs.declared.PathLedger.{PathLedger}
-use Rattle.ledger.specs.Ledger.{dialStarted, finishDial, abortedDials, expectPunches, endPunches, ticked, attributed, forgotten}
+use Rattle.ledger.specs.Ledger.{PathLedger, dialStarted, finishDial, abortedDials, expectPunches, endPunches, ticked, attributed, forgotten}
 
--- a call that may change the ledger, with its arguments; of the live connections, what is the first of each peer
 pub data Call : Type 0 where
   dialStart : ConnectionId → NatToken → DialPurpose → Call
   dialFinish : ConnectionId → Call

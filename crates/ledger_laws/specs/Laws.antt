@@ -1,4 +1,5 @@
 -- What the laws of the ledger say (RULES.md, section 10.7).
+-- the three tables are ascending, with one row for each key
 use mathlib.Core.Path.{_≡_}
 use mathlib.Core.Bool.{Bool, true, false}
 use mathlib.Core.List.{List, [], _∷_}
@@ -13,23 +14,19 @@ use Rattle.ids.specs.declared.ConnectionId.{ConnectionId}
 use Rattle.ids.specs.declared.ConnectId.{ConnectId}
 use Rattle.path.specs.declared.Path.the-variants.{Relayed, Punched, Direct}
 use Rattle.path.specs.declared.Owner.{Owner}
-use Rattle.path.specs.declared.Owner.the-variants.{Attempt, Inbound}
-use Rattle.path.specs.declared.Owner.the-variants.{None as NoOwner}
+use Rattle.path.specs.declared.Owner.the-variants.{Attempt, Inbound, None as NoOwner}
 use Rattle.path.specs.declared.Attribution.{Attribution}
 use Rattle.path.specs.declared.DialPurpose.the-variants.{Punch}
 use Rattle.path.specs.declared.FoundDial.{FoundDial}
 use Rattle.path.specs.declared.FoundDial.the-variants.{At as DialAt, None as NoDial}
 use Rattle.path.specs.declared.Claim.{Claim}
-use Rattle.path.specs.declared.Claim.the-variants.{Circuit}
-use Rattle.path.specs.declared.Claim.the-variants.{Direct as DirectClaim}
+use Rattle.path.specs.declared.Claim.the-variants.{Circuit, Direct as DirectClaim}
 use Rattle.rows.specs.declared.Row.{Row}
 use Rattle.rows.specs.Ascending.{Ascending}
-use Rattle.ledger.specs.declared.PathLedger.{PathLedger}
-use Rattle.ledger.specs.Ledger.{dialsOf, windowsOf, pathsOf}
+use Rattle.ledger.specs.Ledger.{PathLedger, dialsOf, windowsOf, pathsOf}
 use Rattle.ledger_laws.specs.Calls.{Call}
 use Rattle.ledger_laws.specs.Calls.Call.{dialStart, dialFinish, dialsAbort, punchesExpect, punchesEnd, tick, attribute, forget}
 
--- the three tables are ascending, with one row for each key
 pub record InOrder (l : PathLedger) : Type 0 where
   pub dials-ascend : Ascending (dialsOf l)
   pub windows-ascend : Ascending (windowsOf l)

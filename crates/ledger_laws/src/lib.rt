@@ -18,11 +18,12 @@ ghost use Rattle.path.specs.declared.Owner.{Owner};
 ghost use Rattle.path.specs.declared.FoundPath.the-variants.{At as PathAt};
 ghost use Rattle.rows.specs.declared.Row.{Row};
 ghost use Rattle.rows.specs.declared.Found.the-variants.{Nothing};
+ghost use Rattle.rows.specs.Kinds.{entryOf};
 ghost use Rattle.rows.specs.Rows.{findIn, lasts};
 ghost use Rattle.entries.specs.Entries.{dialAt, pathAt, windowOpen};
-ghost use Rattle.ledger.specs.declared.PathLedger.{PathLedger};
+ghost use Rattle.ledger.specs.Ledger.{PathLedger};
 ghost use Rattle.ledger.specs.declared.Answer.the-variants.{Path as Named, None as Unnamed, Refused as NotNamed};
-ghost use Rattle.ledger.specs.declared.Outcome.the-variants.{Refused};
+ghost use Rattle.vocabulary.specs.declared.Outcome.the-variants.{Refused};
 ghost use Rattle.ledger.specs.Ledger.{emptyLedger, dialsOf, windowsOf, pathsOf, dialStarted, expectPunches, endPunches, ticked, judgedBy, attributed, forgotten};
 ghost use Rattle.ledger_laws.specs.Calls.{Call, afterAll};
 ghost use Rattle.ledger_laws.specs.Laws.{InOrder, Why, In, sparesAll, Needs65};
@@ -39,23 +40,23 @@ pub fn row_says_answer()
 
 // A connection keeps its name over any calls that neither attribute nor forget it.
 pub fn name_is_kept()
-    ensures { λ r. ⌜ ((l : PathLedger) → length (pathsOf l) ≤ 64 → (conn : ConnectionId) (calls : List Call) → sparesAll conn calls ≡ true → pathAt conn (pathsOf (afterAll l calls)) ≡ pathAt conn (pathsOf l)) ⌝ }
+    ensures { λ r. ⌜ ((l : PathLedger) (conn : ConnectionId) (calls : List Call) → sparesAll conn calls ≡ true → pathAt conn (pathsOf (afterAll l calls)) ≡ pathAt conn (pathsOf l)) ⌝ }
 {}
 
 // Opening or closing a window of one peer changes no answer for a connection of another.
 pub fn window_is_its_peers()
-    ensures closed { λ r. ⌜ ((l : PathLedger) → length (windowsOf l) ≤ 64 → (conn : ConnectionId) (peer other : PeerId) → (peer .0 ≡ other .0 → ⊥) → (circuit : Bool) (claim : Claim) (now : ℕ) → attributed (endPunches l other) conn peer circuit claim now .answer ≡ attributed l conn peer circuit claim now .answer) ⌝ }
+    ensures closed { λ r. ⌜ ((l : PathLedger) (conn : ConnectionId) (peer other : PeerId) → (peer .0 ≡ other .0 → ⊥) → (circuit : Bool) (claim : Claim) (now : ℕ) → attributed (endPunches l other) conn peer circuit claim now .answer ≡ attributed l conn peer circuit claim now .answer) ⌝ }
     ensures opened { λ r. ⌜ ((l : PathLedger) (conn : ConnectionId) (peer other : PeerId) → (peer .0 ≡ other .0 → ⊥) → (circuit : Bool) (claim : Claim) (until now : ℕ) → attributed (expectPunches l other until .ledger) conn peer circuit claim now .answer ≡ attributed l conn peer circuit claim now .answer) ⌝ }
 {}
 
 // After `forget` neither a dial nor a path of the connection is left.
 pub fn nothing_is_left()
-    ensures { λ r. ⌜ ((l : PathLedger) → length (dialsOf l) ≤ 64 → length (pathsOf l) ≤ 64 → (conn : ConnectionId) → (findIn (conn .0) (dialsOf (forgotten l conn .ledger)) ≡ Nothing) × (findIn (conn .0) (pathsOf (forgotten l conn .ledger)) ≡ Nothing)) ⌝ }
+    ensures { λ r. ⌜ ((l : PathLedger) (conn : ConnectionId) → (findIn (conn .0) (dialsOf (forgotten l conn .ledger)) ≡ Nothing) × (findIn (conn .0) (pathsOf (forgotten l conn .ledger)) ≡ Nothing)) ⌝ }
 {}
 
 // A tick frees the windows that ended by its reading, and no others.
 pub fn ended_windows_are_freed()
-    ensures { λ r. ⌜ ((l : PathLedger) → length (windowsOf l) ≤ 64 → (now : ℕ) (row : Row) → (In row (windowsOf (ticked l now)) → In row (windowsOf l) × (lasts now (row .entry) ≡ true)) × (In row (windowsOf l) → lasts now (row .entry) ≡ true → In row (windowsOf (ticked l now)))) ⌝ }
+    ensures { λ r. ⌜ ((l : PathLedger) (now : ℕ) (row : Row) → (In row (windowsOf (ticked l now)) → In row (windowsOf l) × (lasts now (entryOf row) ≡ true)) × (In row (windowsOf l) → lasts now (entryOf row) ≡ true → In row (windowsOf (ticked l now)))) ⌝ }
 {}
 
 // Over any calls from the empty ledger the tables stay ascending, with one row for each key.

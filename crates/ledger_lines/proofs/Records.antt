@@ -1,4 +1,5 @@
 -- The records of a text, one after the other. Assumes nothing.
+-- the first text between commas is the last
 use mathlib.Core.Path.{_≡_, refl, sym, ap, _∙_}
 use mathlib.Core.List.{List, [], _∷_, _++_, append-nil, append-assoc}
 use mathlib.Core.Bool.{Bool, true, false}
@@ -21,7 +22,6 @@ use Rattle.ledger_lines.specs.declared.Record.{Record}
 use Rattle.ledger_lines.specs.declared.Record.the-variants.{Good, Bad}
 use Rattle.ledger_lines.specs.declared.RecordAt.{RecordAt}
 
--- the first text between commas is the last
 last : (s : List ℕ) → lengthBefore 44 s ≡ length s → between s ≡ take (lengthBefore 44 s) s ∷ []
 unfolding between lengthBefore
 last [] h = refl

@@ -1,4 +1,6 @@
 -- The values of the lines (README.md of `ledger_calls`).
+-- ---- live connections: `-`, or records with commas, 44, between
+-- a record: two numbers with a colon, 58, between
 use Prim.Native.Nat.{ℕ, _+_, _-_}
 use mathlib.Core.List.{List, [], _∷_, _++_}
 use mathlib.Core.Bool.{Bool, true, false}
@@ -8,32 +10,29 @@ use Rattle.prelude.specs.Choice.{pick, both, either}
 use Rattle.text.specs.Words.{ascii, begins, isWord, lengthBefore}
 use Rattle.text.specs.Decimal.{decimalOf}
 use Rattle.text.specs.declared.Number.{Number}
-use Rattle.text.specs.declared.Number.the-variants as num
 use Rattle.fields.specs.Fields.{numberAt, part}
 use Rattle.fields.specs.Line.{number, ends}
 use Rattle.path.specs.declared.Owner.{Owner}
-use Rattle.path.specs.declared.Owner.the-variants as owner
-use Rattle.path.specs.declared.Path.the-variants as path
-use Rattle.path.specs.declared.Claim.the-variants as claim
-use Rattle.path.specs.declared.DialPurpose.the-variants as purpose
 use Rattle.live_dials.specs.declared.Live.{Live}
 use Rattle.live_dials.specs.First.{no-live}
 use Rattle.ledger_lines.specs.declared.Lives.{Lives}
 use Rattle.ledger_lines.specs.declared.Record.{Record}
-use Rattle.ledger_lines.specs.declared.Record.the-variants as rec
 use Rattle.ledger_lines.specs.declared.RecordAt.{RecordAt}
 use Rattle.ledger_lines.specs.declared.OwnerRead.{OwnerRead}
-use Rattle.ledger_lines.specs.declared.OwnerRead.the-variants as ownerRead
 use Rattle.ledger_lines.specs.declared.PathRead.{PathRead}
-use Rattle.ledger_lines.specs.declared.PathRead.the-variants as pathRead
 use Rattle.ledger_lines.specs.declared.ClaimRead.{ClaimRead}
-use Rattle.ledger_lines.specs.declared.ClaimRead.the-variants as claimRead
 use Rattle.ledger_lines.specs.declared.PurposeField.{PurposeField}
+use Rattle.text.specs.declared.Number.the-variants as num
+use Rattle.path.specs.declared.Owner.the-variants as owner
+use Rattle.path.specs.declared.Path.the-variants as path
+use Rattle.path.specs.declared.Claim.the-variants as claim
+use Rattle.path.specs.declared.DialPurpose.the-variants as purpose
+use Rattle.ledger_lines.specs.declared.Record.the-variants as rec
+use Rattle.ledger_lines.specs.declared.OwnerRead.the-variants as ownerRead
+use Rattle.ledger_lines.specs.declared.PathRead.the-variants as pathRead
+use Rattle.ledger_lines.specs.declared.ClaimRead.the-variants as claimRead
 use Rattle.ledger_lines.specs.declared.PurposeField.the-variants as purposeField
 
--- ---- live connections: `-`, or records with commas, 44, between
-
--- a record: two numbers with a colon, 58, between
 abbrev pub paired : Number → Number → Record
 paired (num.Value a) (num.Value b) = rec.Good (record { peer = record { 0 = a }; connection = record { 0 = b } })
 paired (num.Value a) num.Bad = rec.Bad

@@ -1,27 +1,29 @@
 -- What a call makes of the ledger that is kept, and what is said of it (README.md).
+-- the ledger after a call, and what is said of it
+use Prim.Native.Nat.{ℕ}
+use mathlib.Core.List.{List}
+use lib.ListN.{replicate}
 use Rattle.path.specs.declared.FoundDial.{FoundDial}
-use Rattle.path.specs.declared.FoundDial.the-variants as foundDial
 use Rattle.path.specs.declared.FoundPath.{FoundPath}
-use Rattle.path.specs.declared.FoundPath.the-variants as foundPath
 use Rattle.path.specs.declared.Replaced.{Replaced}
-use Rattle.path.specs.declared.Replaced.the-variants as replaced
-use Rattle.entries.specs.declared.Deadline.{Deadline}
-use Rattle.entries.specs.declared.Deadline.the-variants as deadline
-use Rattle.ledger.specs.Ledger.{emptyLedger, dialStarted, finishDial, expectPunches, endPunches, attributed, replacedBy, forgotten, isPunched, ticked, nextDeadline, isQuiet}
-use Rattle.ledger.specs.declared.PathLedger.{PathLedger}
-use Rattle.ledger.specs.declared.Outcome.{Outcome}
-use Rattle.ledger.specs.declared.Outcome.the-variants as outcome
-use Rattle.ledger.specs.declared.Recorded.{Recorded}
-use Rattle.ledger.specs.declared.Finished.{Finished}
+use Rattle.vocabulary.specs.declared.Deadline.{Deadline}
+use Rattle.ledger.specs.Ledger.{PathLedger, Recorded, Finished, Attributed, Forgotten, tablesOf, laid, emptyLedger, dialStarted, finishDial, expectPunches, endPunches, attributed, replacedBy, forgotten, isPunched, ticked, nextDeadline, isQuiet}
+use Rattle.vocabulary.specs.declared.Outcome.{Outcome}
 use Rattle.ledger.specs.declared.Answer.{Answer}
-use Rattle.ledger.specs.declared.Answer.the-variants as answer
-use Rattle.ledger.specs.declared.Attributed.{Attributed}
-use Rattle.ledger.specs.declared.Forgotten.{Forgotten}
 use Rattle.ledger_lines.specs.declared.Call.{Call}
-use Rattle.ledger_lines.specs.declared.Call.the-variants as call
 use Rattle.ledger_answers.specs.declared.Said.{Said}
+use Rattle.path.specs.declared.FoundDial.the-variants as foundDial
+use Rattle.path.specs.declared.FoundPath.the-variants as foundPath
+use Rattle.path.specs.declared.Replaced.the-variants as replaced
+use Rattle.vocabulary.specs.declared.Deadline.the-variants as deadline
+use Rattle.vocabulary.specs.declared.Outcome.the-variants as outcome
+use Rattle.ledger.specs.declared.Answer.the-variants as answer
+use Rattle.ledger_lines.specs.declared.Call.the-variants as call
 use Rattle.ledger_answers.specs.declared.Said.the-variants as said
-use Rattle.ledger_turns.specs.declared.Turn.{Turn}
+
+pub record Turn : Type 0 where
+  pub ledger : PathLedger
+  pub said : Said
 
 abbrev pub saying : PathLedger → Said → Turn
 saying l words = record { ledger = l; said = words }
@@ -87,3 +89,20 @@ turnOf l call.Next = deadlineTurn l (nextDeadline l)
 turnOf l call.Quiet = saying l (said.Yes (isQuiet l))
 turnOf l call.Show = saying l said.Ledger
 turnOf l call.Bad = saying l said.Bad
+
+-- the ledger's words after a call: a new ledger is zeros
+unfoldable pub wordsAfter : List ℕ → Call → List ℕ
+wordsAfter ws call.Empty = replicate 963 0
+wordsAfter ws (call.Dial conn token purpose) = laid (turnOf (tablesOf ws) (call.Dial conn token purpose) .ledger) ws
+wordsAfter ws (call.Finish conn) = laid (turnOf (tablesOf ws) (call.Finish conn) .ledger) ws
+wordsAfter ws (call.Expect peer until) = laid (turnOf (tablesOf ws) (call.Expect peer until) .ledger) ws
+wordsAfter ws (call.End peer) = laid (turnOf (tablesOf ws) (call.End peer) .ledger) ws
+wordsAfter ws (call.Attribute at peer conn circuit claim) = laid (turnOf (tablesOf ws) (call.Attribute at peer conn circuit claim) .ledger) ws
+wordsAfter ws (call.Forget conn) = laid (turnOf (tablesOf ws) (call.Forget conn) .ledger) ws
+wordsAfter ws (call.Tick at) = laid (turnOf (tablesOf ws) (call.Tick at) .ledger) ws
+wordsAfter ws (call.Replaced old new) = ws
+wordsAfter ws (call.Punched conn) = ws
+wordsAfter ws call.Next = ws
+wordsAfter ws call.Quiet = ws
+wordsAfter ws call.Show = ws
+wordsAfter ws call.Bad = ws

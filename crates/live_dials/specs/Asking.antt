@@ -1,20 +1,18 @@
 -- The peers that the rows of a table of dials ask for (RULES.md, section 10.4).
+-- one for each row; the target behind them
 use mathlib.Core.List.{List, map}
 use Rattle.ids.specs.declared.PeerId.{PeerId}
-use Rattle.rows.specs.declared.Table.{Table}
+use Rattle.rows.specs.declared.Row.{Row}
+use Rattle.rows.specs.Rows.{padded}
 use Rattle.dials.specs.Dials.{askedOf}
 use Rattle.dials.specs.declared.Firsts.{Firsts}
-use Rattle.ledger.specs.declared.PathLedger.{PathLedger}
 use Rattle.live_dials.specs.declared.Asked.{Asked}
 use Rattle.live_dials.specs.declared.Live.{Live}
 use Rattle.live_dials.specs.First.{firstsOf}
 
-unfoldable pub askedRows : Table → PeerId → Asked
-askedRows d target = record { peers = map (askedOf target) (d .rows) }
-
-abbrev pub askedAll : PathLedger → PeerId → Asked
-askedAll l target = askedRows (l .dials) target
+unfoldable pub askedRows : List Row → PeerId → Asked
+askedRows rs target = record { peers = padded target (map (askedOf target) rs) }
 
 -- the first live connection of each
-abbrev pub firstsFor : PathLedger → PeerId → List Live → Firsts
-firstsFor l target ls = firstsOf ls (askedAll l target)
+abbrev pub firstsFor : List Row → PeerId → List Live → Firsts
+firstsFor rs target ls = firstsOf ls (askedRows rs target)

@@ -1,4 +1,5 @@
 -- A peer's first live connection, over a list of records (RULES.md, section 10.4).
+-- the record is one of the peer
 use mathlib.Core.Bool.{Bool}
 use mathlib.Core.List.{List, [], _∷_, map}
 use lib.Dec.{eqb}
@@ -13,7 +14,6 @@ use Rattle.live_dials.specs.declared.Asked.{Asked}
 use Rattle.live_dials.specs.declared.Found.{Found}
 use Rattle.live_dials.specs.declared.Found.the-variants.{At, Nothing}
 
--- the record is one of the peer
 abbrev pub isPeer : Live → PeerId → Bool
 isPeer l p = eqb (l .peer .0) (p .0)
 

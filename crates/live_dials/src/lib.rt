@@ -1,20 +1,23 @@
 // Dropping the dials of a connect attempt (`abort_attempt_dials` of ledger.rs), over the live connections as a lent slice of records.
-// The borrow checker covers no function with a reference to a slice of structs: `first_live`, `first_lives`, `firsts_for` and
-// `abort_attempt_dials` are proved by hand, walking their code. The others take their values, and are covered.
+// The borrow checker covers no function with a reference to a slice of structs: `first_live`, `first_lives` and `abort_attempt_dials` are
+// proved by hand, walking their code. The others are covered.
 ghost use mathlib.Core.Path.{_≡_};
 ghost use Prim.Native.Nat.{_<_};
 ghost use lib.ListN.{getD, set};
-ghost use Rattle.ledger.specs.Ledger.{abortedWith, abortedDials};
+ghost use Rattle.rows.specs.declared.Table.the-variants.{Dials};
+ghost use Rattle.rows.specs.Words.{rowsOf};
+ghost use Rattle.ledger.specs.Ledger.{tablesOf, laid, abortedDials};
 ghost use Rattle.live_dials.specs.First.{isPeer, firstOf, no-peer, liveOf, first, firstsOf, firstLive};
-ghost use Rattle.live_dials.specs.Asking.{askedRows, askedAll, firstsFor};
+ghost use Rattle.live_dials.specs.Asking.{askedRows};
+use dials::Dropped;
 use dials::First;
 use dials::FirstLive;
 use dials::Firsts;
 use ids::ConnectId;
 use ids::ConnectionId;
 use ids::PeerId;
-use ledger::Aborted;
-use ledger::PathLedger;
+use rows::Ledger;
+use rows::ROWS;
 use rows::Table;
 
 // A live connection of a peer.
@@ -52,7 +55,7 @@ pub fn first_live(live: &[Live], peer: PeerId) -> Found
 
 // The peers to ask for, one for each row.
 pub struct Asked {
-    pub peers: [PeerId; 64],
+    pub peers: [PeerId; ROWS],
 }
 
 fn asked_at(a: Asked, k: usize) -> PeerId
@@ -81,12 +84,12 @@ fn put_first(mut f: Firsts, k: usize, x: Found) -> Firsts
 }
 
 // The first live connection of each peer.
-fn first_lives(live: &[Live], asked: Asked) -> Firsts
+pub fn first_lives(live: &[Live], asked: Asked) -> Firsts
     ensures { λ r. ⌜ r ≡ firstsOf (now (live .entry)) asked ⌝ }
 {
     let mut f = dials::no_firsts();
     let mut k = 0;
-    while k < 64 {
+    while k < ROWS {
         let x = first_live(live, asked_at(asked, k));
         f = put_first(f, k, x);
         k += 1;
@@ -94,16 +97,17 @@ fn first_lives(live: &[Live], asked: Asked) -> Firsts
     f
 }
 
-// The peer that each row asks for.
-fn asked_rows(d: Table, target: PeerId) -> Asked
-    ensures { λ r. ⌜ r ≡ askedRows d target ⌝ }
+// The peer that each row of the dials asks for.
+pub fn asked_rows(l: &Ledger, target: PeerId) -> Asked
+    ensures { λ r. ⌜ r ≡ askedRows (rowsOf Dials (now (l .entry))) target ⌝ }
 {
+    let n = rows::used(l, Table::Dials);
     let mut a = Asked {
-        peers: [target; 64],
+        peers: [target; ROWS],
     };
     let mut k = 0;
-    while k < 64 {
-        let r = d.rows[k];
+    while k < n {
+        let r = rows::row_at(l, Table::Dials, k);
         let p = dials::asked_of(r, target);
         a.peers[k] = p;
         k += 1;
@@ -111,32 +115,15 @@ fn asked_rows(d: Table, target: PeerId) -> Asked
     a
 }
 
-fn asked_all(l: PathLedger, target: PeerId) -> Asked
-    ensures { λ r. ⌜ r ≡ askedAll l target ⌝ }
-{
-    let dials = l.dials;
-    asked_rows(dials, target)
-}
-
-// The first live connection of the peer that each row of the dials asks for.
-fn firsts_for(l: PathLedger, target: PeerId, live: &[Live]) -> Firsts
-    ensures { λ r. ⌜ r ≡ firstsFor l target (now (live .entry)) ⌝ }
-{
-    let a = asked_all(l, target);
-    first_lives(live, a)
-}
-
-fn drop_with(l: PathLedger, id: ConnectId, f: Firsts) -> Aborted
-    ensures { λ r. ⌜ r ≡ abortedWith l id f ⌝ }
-{
-    l.abort_with(id, f)
-}
-
 // Drops the dials of the attempt that connects to the target. A dial whose connection is its peer's first live one is not closed; a
 // punch dial then keeps its row.
-pub fn abort_attempt_dials(l: PathLedger, id: ConnectId, target: PeerId, live: &[Live]) -> Aborted
-    ensures { λ r. ⌜ r ≡ abortedDials l id target (firstLive (now (live .entry))) ⌝ }
+pub fn abort_attempt_dials(l: &mut Ledger, id: ConnectId, target: PeerId, live: &[Live]) -> Dropped
+    ensures retired { λ r. ⌜ r .retired ≡ abortedDials (tablesOf (now (l .entry))) id target (firstLive (now (live .entry))) .retired ⌝ }
+    ensures close { λ r. ⌜ r .close ≡ abortedDials (tablesOf (now (l .entry))) id target (firstLive (now (live .entry))) .close ⌝ }
+    ensures tables { λ r. ⌜ tablesOf (now (l .exit)) ≡ abortedDials (tablesOf (now (l .entry))) id target (firstLive (now (live .entry))) .ledger ⌝ }
+    ensures words { λ r. ⌜ now (l .exit) ≡ laid (abortedDials (tablesOf (now (l .entry))) id target (firstLive (now (live .entry))) .ledger) (now (l .entry)) ⌝ }
 {
-    let f = firsts_for(l, target, live);
-    drop_with(l, id, f)
+    let asked = asked_rows(l, target);
+    let firsts = first_lives(live, asked);
+    ledger::abort_with(l, id, firsts)
 }

@@ -6,7 +6,6 @@ use mathlib.Core.Bool.{Bool, true, false}
 use mathlib.Core.List.{List, [], _∷_, _++_}
 use native.Mathlib.Omega.{arith}
 use borrow.Author.Tests.{eqb-true, eqb-false, ne-eqb, eq-eqb, ltb-true, ltb-false, lt-ltb, le-ltb}
-use lib.ListN.{length}
 use lib.Dec.{eqb, ltb}
 use Rattle.prelude.specs.Choice.{pick, both, either}
 use Rattle.ids.specs.declared.PeerId.{PeerId}
@@ -14,17 +13,15 @@ use Rattle.ids.specs.declared.ConnectionId.{ConnectionId}
 use Rattle.ids.specs.declared.ConnectId.{ConnectId}
 use Rattle.ids.specs.declared.NatToken.{NatToken}
 use Rattle.path.specs.declared.Attribution.{Attribution}
-use Rattle.path.specs.declared.FoundPath.{FoundPath}
 use Rattle.path.specs.declared.FoundPath.the-variants as found
-use Rattle.path.specs.declared.FoundDial.{FoundDial}
-use Rattle.path.specs.declared.FoundDial.the-variants.{At as DialAt, None as NoDial}
+use Rattle.path.specs.declared.FoundDial.the-variants.{None as NoDial}
 use Rattle.path.specs.declared.Claim.{Claim}
 use Rattle.path.specs.declared.DialPurpose.the-variants.{Punch}
 use Rattle.path.specs.declared.Path.the-variants.{Punched}
 use Rattle.path.specs.declared.Owner.the-variants.{Attempt}
 use Rattle.path.specs.Judged.{byDial}
 use Rattle.rows.specs.declared.Entry.{Entry}
-use Rattle.rows.specs.declared.Entry.the-variants.{Free, Dialed, Window, Path}
+use Rattle.rows.specs.declared.Entry.the-variants.{Dialed, Window, Path, Other as NoEntry}
 use Rattle.rows.specs.declared.Row.{Row}
 use Rattle.rows.specs.declared.Found.{Found}
 use Rattle.rows.specs.declared.Found.the-variants.{At, Nothing}
@@ -32,19 +29,15 @@ use Rattle.rows.specs.declared.Keep.the-variants.{Other, Lasting, Below as Keep
 use Rattle.rows.specs.Ascending.{Below, Ascending}
 use Rattle.rows.specs.Ascending.Below.{none as below-none, more as below-more}
 use Rattle.rows.specs.Ascending.Ascending.{none as ascending-none, more as ascending-more}
-use Rattle.rows.specs.Rows.{rowsOf, tableOf, findIn, such, keepsRow, kept, without, inserted, crowded}
+use Rattle.rows.specs.Kinds.{entryOf}
+use Rattle.rows.specs.Rows.{findIn, such, keepsRow, kept, without, inserted, crowded}
 use Rattle.rows.specs.Rows as row
-use Rattle.rows.proofs.Lists.{such-≤, rows-tableOf}
-use Rattle.rows.proofs.Fill.{length-first}
-use Rattle.rows.proofs.Laws.{rows-all, find-inserted, find-inserted-other, find-without, find-without-other, inserted-fits}
-use Rattle.entries.specs.declared.Deadline.{Deadline}
-use Rattle.entries.specs.declared.Deadline.the-variants.{At as EndAt, None as NoEnd}
+use Rattle.rows.proofs.EntryRows.{entry-back}
+use Rattle.rows.proofs.Laws.{find-entered, find-inserted-other, find-without, find-without-other}
+use Rattle.vocabulary.specs.declared.Deadline.{Deadline}
+use Rattle.vocabulary.specs.declared.Deadline.the-variants.{At as EndAt, None as NoEnd}
 use Rattle.entries.specs.Entries.{dialOf, dialAt, endOf, endAt, windowOpen, punchEnd, lasts, later, readAs}
-use Rattle.ledger.specs.declared.PathLedger.{PathLedger}
-use Rattle.ledger.specs.declared.Attributed.{Attributed}
-use Rattle.ledger.specs.declared.Answer.the-variants.{Path as Named, Refused as NotNamed}
-use Rattle.refusal.specs.declared.Refusal.the-variants.{LedgerFull}
-use Rattle.ledger.specs.Ledger.{emptyLedger, dialsOf, windowsOf, pathsOf, withDials, withWindows, withPaths, dialRow, windowRow, pathRow, fullOr, refusesPunches, dialStarted, expectPunches, endPunches, ticked, attributed, forgotten, recorded, judgedBy}
+use Rattle.ledger.specs.Ledger.{PathLedger, emptyLedger, dialsOf, windowsOf, pathsOf, withDials, withWindows, withPaths, dialRow, windowRow, pathRow, refusesPunches, dialStarted, expectPunches, endPunches, ticked, attributed, forgotten, judgedBy}
 use Rattle.ledger_laws.specs.Calls as law
 use Rattle.ledger_laws.specs.Laws.{InOrder}
 use Rattle.ledger_laws.proofs.Order.{empty-order, all-order}
@@ -54,14 +47,14 @@ use Rattle.names.proofs.Tallies.{count, count-same, count-such, SameKey
 
 -- each row is a window's
 abbrev IsWindow : Entry → Type 0
-IsWindow Free = ⊥
 IsWindow (Dialed d) = ⊥
 IsWindow (Window until) = Unit {0}
 IsWindow (Path x) = ⊥
+IsWindow NoEntry = ⊥
 
 unfoldable pub AllWindows : List Row → Type 0
 AllWindows [] = Unit {0}
-AllWindows (r ∷ rs) = IsWindow (r .entry) × AllWindows rs
+AllWindows (r ∷ rs) = IsWindow (entryOf r) × AllWindows rs
 
 windows-such : (p : Row → Bool) (rs : List Row) → AllWindows rs → AllWindows (such p rs)
 unfolding AllWindows such
@@ -77,26 +70,21 @@ unfolding AllWindows
 windows-append [] qs a b = b
 windows-append (r ∷ rs) qs a b = (a .0, windows-append rs qs (a .1) b)
 
-windows-inserted : (r : Row) (rs : List Row) → IsWindow (r .entry) → AllWindows rs → AllWindows (inserted r rs)
+windows-inserted : (of : PeerId) (until : ℕ) (rs : List Row) → AllWindows rs → AllWindows (inserted (windowRow of until) rs)
 unfolding AllWindows
-windows-inserted r rs w a =
-    windows-append (kept (KeepBelow (r .key)) rs) (r ∷ kept (KeepAbove (r .key)) rs) (windows-such (keepsRow (KeepBelow (r .key))) rs a)
-    (w, windows-such (keepsRow (KeepAbove (r .key))) rs a)
+windows-inserted of until rs a =
+    windows-append (kept (KeepBelow (of .0)) rs) (windowRow of until ∷ kept (KeepAbove (of .0)) rs)
+    (windows-such (keepsRow (KeepBelow (of .0))) rs a)
+    (subst IsWindow (sym (entry-back (of .0) (Window until))) tt, windows-such (keepsRow (KeepAbove (of .0))) rs a)
 
 pub record Agrees (l : PathLedger) (es : List Event) : Type 0 where
   pub windows : (peer : PeerId) (n : ℕ) → windowOpen peer n (windowsOf l) ≡ awaited peer n es
   pub dials : (conn : ConnectionId) (other : Attribution) → byDial (dialAt conn (dialsOf l)) other ≡ punchedFor conn es other
   pub order : InOrder l
-  pub few-windows : length (windowsOf l) ≤ 64
-  pub few-dials : length (dialsOf l) ≤ 64
-  pub few-paths : length (pathsOf l) ≤ 64
   pub window-keys : SameKeys (windowsOf l) (expected es)
   pub dial-keys : SameKeys (dialsOf l) (dialing es)
   pub path-keys : SameKeys (pathsOf l) (named es)
   pub all-windows : AllWindows (windowsOf l)
-
-table-64 : (rs : List Row) → length (rowsOf (tableOf rs)) ≤ 64
-table-64 rs = rw (rows-tableOf rs) (length-first 64 rs)
 
 -- a call of the ledger keeps the order of its rows
 ordered : (l : PathLedger) → InOrder l → (c : law.Call) → InOrder (law.after l c)
@@ -104,15 +92,12 @@ unfolding law.afterAll
 ordered l o c = all-order l o (c ∷ [])
 
 pub empty-agrees : Agrees emptyLedger []
-unfolding emptyLedger awaited punchedFor windowOpen endAt dialAt byDial tableOf findIn dialing named expected AllWindows
+unfolding emptyLedger awaited punchedFor windowOpen endAt dialAt byDial findIn dialing named expected AllWindows
 empty-agrees =
     record {
       windows = λ peer n. refl;
       dials = λ conn other. refl;
       order = empty-order;
-      few-windows = omega arith;
-      few-dials = omega arith;
-      few-paths = omega arith;
       window-keys = no-keys;
       dial-keys = no-keys;
       path-keys = no-keys;
@@ -155,9 +140,9 @@ none-below p k (below-more {r} {rs} h b) = go (p r) (none-below p k b)
 -- an entry that a tick keeps, or drops
 entry-kept : (n at : ℕ) (e : Entry) → row.lasts at e ≡ true → lasts n (endOf e) ≡ lasts (max n at) (endOf e)
 unfolding endOf
-entry-kept n at Free h = refl
 entry-kept n at (Dialed d) h = refl
 entry-kept n at (Path x) h = refl
+entry-kept n at NoEntry h = refl
 entry-kept n at (Window until) h = go (ltb n until) refl
   where
     go : (v : Bool) → ltb n until ≡ v → v ≡ ltb (max n at) until
@@ -171,9 +156,9 @@ entry-kept n at (Window until) h = go (ltb n until) refl
 
 entry-dropped : (n at : ℕ) (e : Entry) → row.lasts at e ≡ false → false ≡ lasts (max n at) (endOf e)
 unfolding endOf
-entry-dropped n at Free h = refl
 entry-dropped n at (Dialed d) h = refl
 entry-dropped n at (Path x) h = refl
+entry-dropped n at NoEntry h = refl
 entry-dropped n at (Window until) h =
     let u : until ≤ at = ltb-false at until h in
     sym (le-ltb (max n at) until (omega arith))
@@ -183,19 +168,19 @@ ticked-lasts : (k n at : ℕ) {rs : List Row} → Ascending rs
     → lasts n (readAs endOf NoEnd (findIn k (kept (Lasting at) rs))) ≡ lasts (max n at) (readAs endOf NoEnd (findIn k rs))
 unfolding such findIn
 ticked-lasts k n at ascending-none = refl
-ticked-lasts k n at (ascending-more {r} {rs} b a) = go (row.lasts at (r .entry)) refl (eqb (r .key) k) refl (ticked-lasts k n at a)
+ticked-lasts k n at (ascending-more {r} {rs} b a) = go (row.lasts at (entryOf r)) refl (eqb (r .key) k) refl (ticked-lasts k n at a)
   where
     rest : List Row
     rest = such (keepsRow (Lasting at)) rs
 
-    go : (v : Bool) → row.lasts at (r .entry) ≡ v → (w : Bool) → eqb (r .key) k ≡ w
+    go : (v : Bool) → row.lasts at (entryOf r) ≡ v → (w : Bool) → eqb (r .key) k ≡ w
         → lasts n (readAs endOf NoEnd (findIn k rest)) ≡ lasts (max n at) (readAs endOf NoEnd (findIn k rs))
-        → lasts n (readAs endOf NoEnd (findIn k (pick v (r ∷ rest) rest))) ≡ lasts (max n at) (readAs endOf NoEnd (pick w (At (r .entry)) (findIn k rs)))
-    go true e true f i = rw f (entry-kept n at (r .entry) e)
+        → lasts n (readAs endOf NoEnd (findIn k (pick v (r ∷ rest) rest))) ≡ lasts (max n at) (readAs endOf NoEnd (pick w (At (entryOf r)) (findIn k rs)))
+    go true e true f i = rw f (entry-kept n at (entryOf r) e)
     go true e false f i = rw f i
     go false e true f i =
         rw (none-below (keepsRow (Lasting at)) k (subst (λ (j : ℕ). Below j rs) (eqb-true (r .key) k f) b))
-        (entry-dropped n at (r .entry) e)
+        (entry-dropped n at (entryOf r) e)
     go false e false f i = i
 
 -- what is found of a key decides
@@ -225,71 +210,62 @@ module _ (l : PathLedger) (es : List Event) (a : Agrees l es) (of : PeerId) wher
         windows = λ peer n. go peer n (eqb (peer .0) (of .0)) refl;
         dials = a .dials;
         order = ordered l (a .order) (law.punchesEnd of);
-        few-windows = table-64 (without (of .0) (windowsOf l));
-        few-dials = a .few-dials;
-        few-paths = a .few-paths;
-        window-keys = rw all (keys-without (of .0) (windowsOf l) (expected es) (a .window-keys));
+        window-keys = keys-without (of .0) (windowsOf l) (expected es) (a .window-keys);
         dial-keys = a .dial-keys;
         path-keys = a .path-keys;
-        all-windows = rw all (windows-such (keepsRow (Other (of .0))) (windowsOf l) (a .all-windows));
+        all-windows = windows-such (keepsRow (Other (of .0))) (windowsOf l) (a .all-windows);
       }
     where
-      all : rowsOf (tableOf (without (of .0) (windowsOf l))) ≡ without (of .0) (windowsOf l)
-      all = rows-all (without (of .0) (windowsOf l)) (omega (arith, a .few-windows, such-≤ (keepsRow (Other (of .0))) (windowsOf l)))
-
       go : (peer : PeerId) (n : ℕ) (v : Bool) → eqb (peer .0) (of .0) ≡ v
-          → windowOpen peer n (rowsOf (tableOf (without (of .0) (windowsOf l)))) ≡ pick v false (awaited peer n es)
+          → windowOpen peer n (without (of .0) (windowsOf l)) ≡ pick v false (awaited peer n es)
       go peer n true e =
           opens-by peer n _
-          (ap (findIn (peer .0)) all
-          ∙ subst (λ (k : ℕ). findIn k (without (of .0) (windowsOf l)) ≡ Nothing) (sym (eqb-true (peer .0) (of .0) e)) (find-without (of .0) (windowsOf l)))
+          (subst (λ (k : ℕ). findIn k (without (of .0) (windowsOf l)) ≡ Nothing)
+          (sym (eqb-true (peer .0) (of .0) e)) (find-without (of .0) (windowsOf l)))
       go peer n false e =
-          opens-same peer n _ (windowsOf l) (ap (findIn (peer .0)) all ∙ find-without-other (peer .0) (of .0) (eqb-false (peer .0) (of .0) e) (windowsOf l))
+          opens-same peer n _ (windowsOf l) (find-without-other (peer .0) (of .0) (eqb-false (peer .0) (of .0) e) (windowsOf l))
           ∙ a .windows peer n
 
   pub replied-agrees : (deadline : ℕ) → refusesPunches l of ≡ false → Agrees (expectPunches l of deadline .ledger) (replied of deadline ∷ es)
   unfolding expectPunches refusesPunches awaited punchedFor law.after punchEnd endAt endOf windowOpen dialing named expected
   replied-agrees deadline f =
       let o : InOrder (expectPunches l of deadline .ledger) = ordered l (a .order) (law.punchesExpect of deadline) in
-      let r : InOrder (withWindows l (tableOf (inserted line (windowsOf l)))) = rw f at o in
+      let r : InOrder (withWindows l (inserted line (windowsOf l))) = rw f at o in
       rw f
       (record {
         windows = λ peer n. go peer n (eqb (peer .0) (of .0)) refl;
         dials = a .dials;
         order = r;
-        few-windows = table-64 (inserted line (windowsOf l));
-        few-dials = a .few-dials;
-        few-paths = a .few-paths;
-        window-keys = rw all (keys-inserted line (windowsOf l) (expected es) (a .window-keys));
+        window-keys = keys-inserted line (windowsOf l) (expected es) (a .window-keys);
         dial-keys = a .dial-keys;
         path-keys = a .path-keys;
-        all-windows = rw all (windows-inserted line (windowsOf l) tt (a .all-windows));
+        all-windows = windows-inserted of ends (windowsOf l) (a .all-windows);
       })
     where
-      line : Row
-      line = windowRow of (later deadline (endAt of (windowsOf l)))
+      ends : ℕ
+      ends = later deadline (endAt of (windowsOf l))
 
-      all : rowsOf (tableOf (inserted line (windowsOf l))) ≡ inserted line (windowsOf l)
-      all = rows-all (inserted line (windowsOf l)) (inserted-fits line (windowsOf l) f)
+      line : Row
+      line = windowRow of ends
 
       go : (peer : PeerId) (n : ℕ) (v : Bool) → eqb (peer .0) (of .0) ≡ v
-          → windowOpen peer n (rowsOf (tableOf (inserted line (windowsOf l)))) ≡ either (both v (ltb n deadline)) (awaited peer n es)
+          → windowOpen peer n (inserted line (windowsOf l)) ≡ either (both v (ltb n deadline)) (awaited peer n es)
       go peer n true e =
           let k : peer .0 ≡ of .0 = eqb-true (peer .0) (of .0) e in
           opens-by peer n _
-          (ap (findIn (peer .0)) all
-          ∙ subst (λ (j : ℕ). findIn j (inserted line (windowsOf l)) ≡ At (line .entry)) (sym k) (find-inserted line (windowsOf l)))
+          (subst (λ (j : ℕ). findIn j (inserted line (windowsOf l)) ≡ At (Window ends)) (sym k)
+          (find-entered (of .0) (Window ends) (windowsOf l)))
           ∙ later-lasts n deadline (endAt of (windowsOf l))
           ∙ ap (either (ltb n deadline))
           (ap (λ (j : ℕ). lasts n (readAs endOf NoEnd (findIn j (windowsOf l)))) (sym k) ∙ a .windows peer n)
       go peer n false e =
-          opens-same peer n _ (windowsOf l) (ap (findIn (peer .0)) all ∙ find-inserted-other (peer .0) line (eqb-false (peer .0) (of .0) e) (windowsOf l))
+          opens-same peer n _ (windowsOf l) (find-inserted-other (peer .0) line (eqb-false (peer .0) (of .0) e) (windowsOf l))
           ∙ a .windows peer n
 
 -- each of these rows is the first of its key among all
 unfoldable Finds : List Row → List Row → Type 0
 Finds all [] = Unit {0}
-Finds all (r ∷ rs) = (findIn (r .key) all ≡ At (r .entry)) × Finds all rs
+Finds all (r ∷ rs) = (findIn (r .key) all ≡ At (entryOf r)) × Finds all rs
 
 finds-more : (x : Row) (all : List Row) {rs : List Row} → Below (x .key) rs → Finds all rs → Finds (x ∷ all) rs
 unfolding Finds findIn
@@ -303,21 +279,21 @@ ascending-finds (ascending-more {r} {rs} b a) = (rw (eq-eqb (r .key) (r .key) re
 
 -- a row that a tick keeps is that of a key whose window lasts
 kept-lasts : (at : ℕ) (p : ℕ → Bool) (all rs : List Row) → Finds all rs → AllWindows rs
-    → count (λ (r : Row). both (row.lasts at (r .entry)) (p (r .key))) rs
+    → count (λ (r : Row). both (row.lasts at (entryOf r)) (p (r .key))) rs
     ≡ count (λ (r : Row). both (lasts at (readAs endOf NoEnd (findIn (r .key) all))) (p (r .key))) rs
 unfolding count Finds AllWindows endOf
 kept-lasts at p all [] f w = refl
 kept-lasts at p all (r ∷ rs) f w =
     rw (f .0)
-    (ap (λ (n : ℕ). pick (both (row.lasts at (r .entry)) (p (r .key))) 1 0 + n) (kept-lasts at p all rs (f .1) (w .1))
+    (ap (λ (n : ℕ). pick (both (row.lasts at (entryOf r)) (p (r .key))) 1 0 + n) (kept-lasts at p all rs (f .1) (w .1))
     ∙ ap (λ (v : Bool). pick (both v (p (r .key))) 1 0 + count (λ (x : Row). both (lasts at (readAs endOf NoEnd (findIn (x .key) all))) (p (x .key))) rs)
-    (entry-lasts (r .entry) (w .0)))
+    (entry-lasts (entryOf r) (w .0)))
   where
     entry-lasts : (e : Entry) → IsWindow e → row.lasts at e ≡ lasts at (endOf e)
-    entry-lasts Free i = absurd i
     entry-lasts (Dialed d) i = absurd i
     entry-lasts (Window until) i = refl
     entry-lasts (Path x) i = absurd i
+    entry-lasts NoEntry i = absurd i
 
 module _ (l : PathLedger) (es : List Event) (a : Agrees l es) where
   ticked-keys : (at : ℕ) → SameKeys (kept (Lasting at) (windowsOf l)) (such (λ (k : ℕ). awaited (record { 0 = k }) at es) (expected es))
@@ -340,58 +316,49 @@ module _ (l : PathLedger) (es : List Event) (a : Agrees l es) where
   unfolding ticked awaited punchedFor law.after dialing named expected
   ticked-agrees at =
       record {
-        windows = λ peer n. opens-by peer n (rowsOf (tableOf (kept (Lasting at) (windowsOf l)))) (ap (findIn (peer .0)) all)
+        windows = λ peer n. opens-by peer n (kept (Lasting at) (windowsOf l)) refl
             ∙ ticked-lasts (peer .0) n at (a .order .windows-ascend)
             ∙ sym (opens-by peer (max n at) (windowsOf l) refl)
             ∙ a .windows peer (max n at);
         dials = a .dials;
         order = ordered l (a .order) (law.tick at);
-        few-windows = table-64 (kept (Lasting at) (windowsOf l));
-        few-dials = a .few-dials;
-        few-paths = a .few-paths;
-        window-keys = rw all (ticked-keys at);
+        window-keys = ticked-keys at;
         dial-keys = a .dial-keys;
         path-keys = a .path-keys;
-        all-windows = rw all (windows-such (keepsRow (Lasting at)) (windowsOf l) (a .all-windows));
+        all-windows = windows-such (keepsRow (Lasting at)) (windowsOf l) (a .all-windows);
       }
-    where
-      all : rowsOf (tableOf (kept (Lasting at) (windowsOf l))) ≡ kept (Lasting at) (windowsOf l)
-      all = rows-all (kept (Lasting at) (windowsOf l)) (omega (arith, a .few-windows, such-≤ (keepsRow (Lasting at)) (windowsOf l)))
 
   pub dialed-agrees : (conn : ConnectionId) (token : NatToken) (id : ConnectId) → crowded (conn .0) (dialsOf l) ≡ false
-      → Agrees (withDials l (tableOf (inserted (dialRow conn token (Punch id)) (dialsOf l)))) (dialed conn id ∷ es)
+      → Agrees (withDials l (inserted (dialRow conn token (Punch id)) (dialsOf l))) (dialed conn id ∷ es)
   unfolding dialStarted awaited punchedFor law.after byDial dialOf dialing named expected
   dialed-agrees conn token id f =
       let o : InOrder (dialStarted l conn token (Punch id) .ledger) = ordered l (a .order) (law.dialStart conn token (Punch id)) in
-      let r : InOrder (withDials l (tableOf (inserted line (dialsOf l)))) = rw f at o in
+      let r : InOrder (withDials l (inserted line (dialsOf l))) = rw f at o in
       record {
         windows = a .windows;
         dials = λ of other. go of other (eqb (of .0) (conn .0)) refl;
         order = r;
-        few-windows = a .few-windows;
-        few-dials = table-64 (inserted line (dialsOf l));
-        few-paths = a .few-paths;
         window-keys = a .window-keys;
-        dial-keys = rw all (keys-inserted line (dialsOf l) (dialing es) (a .dial-keys));
+        dial-keys = keys-inserted line (dialsOf l) (dialing es) (a .dial-keys);
         path-keys = a .path-keys;
         all-windows = a .all-windows;
       }
     where
+      dial : Entry
+      dial = Dialed (record { token = token; purpose = Punch id })
+
       line : Row
       line = dialRow conn token (Punch id)
 
-      all : rowsOf (tableOf (inserted line (dialsOf l))) ≡ inserted line (dialsOf l)
-      all = rows-all (inserted line (dialsOf l)) (inserted-fits line (dialsOf l) f)
-
       go : (of : ConnectionId) (other : Attribution) (v : Bool) → eqb (of .0) (conn .0) ≡ v
-          → byDial (dialAt of (rowsOf (tableOf (inserted line (dialsOf l))))) other
+          → byDial (dialAt of (inserted line (dialsOf l))) other
           ≡ pick v (record { path = Punched; owner = Attempt id }) (punchedFor of es other)
       go of other true e =
           dials-by of other _
-          (ap (findIn (of .0)) all
-          ∙ subst (λ (k : ℕ). findIn k (inserted line (dialsOf l)) ≡ At (line .entry)) (sym (eqb-true (of .0) (conn .0) e)) (find-inserted line (dialsOf l)))
+          (subst (λ (k : ℕ). findIn k (inserted line (dialsOf l)) ≡ At dial)
+          (sym (eqb-true (of .0) (conn .0) e)) (find-entered (conn .0) dial (dialsOf l)))
       go of other false e =
-          dials-same of other _ (dialsOf l) (ap (findIn (of .0)) all ∙ find-inserted-other (of .0) line (eqb-false (of .0) (conn .0) e) (dialsOf l))
+          dials-same of other _ (dialsOf l) (find-inserted-other (of .0) line (eqb-false (of .0) (conn .0) e) (dialsOf l))
           ∙ a .dials of other
 
   pub forgot-agrees : (conn : ConnectionId) → Agrees (forgotten l conn .ledger) (forgot conn ∷ es)
@@ -401,54 +368,39 @@ module _ (l : PathLedger) (es : List Event) (a : Agrees l es) where
         windows = a .windows;
         dials = λ of other. go of other (eqb (of .0) (conn .0)) refl;
         order = ordered l (a .order) (law.forget conn);
-        few-windows = a .few-windows;
-        few-dials = table-64 (without (conn .0) (dialsOf l));
-        few-paths = table-64 (without (conn .0) (pathsOf l));
         window-keys = a .window-keys;
-        dial-keys = rw all (keys-without (conn .0) (dialsOf l) (dialing es) (a .dial-keys));
-        path-keys = rw all-paths (keys-without (conn .0) (pathsOf l) (named es) (a .path-keys));
+        dial-keys = keys-without (conn .0) (dialsOf l) (dialing es) (a .dial-keys);
+        path-keys = keys-without (conn .0) (pathsOf l) (named es) (a .path-keys);
         all-windows = a .all-windows;
       }
     where
-      all-paths : rowsOf (tableOf (without (conn .0) (pathsOf l))) ≡ without (conn .0) (pathsOf l)
-      all-paths = rows-all (without (conn .0) (pathsOf l)) (omega (arith, a .few-paths, such-≤ (keepsRow (Other (conn .0))) (pathsOf l)))
-
-      all : rowsOf (tableOf (without (conn .0) (dialsOf l))) ≡ without (conn .0) (dialsOf l)
-      all = rows-all (without (conn .0) (dialsOf l)) (omega (arith, a .few-dials, such-≤ (keepsRow (Other (conn .0))) (dialsOf l)))
-
       go : (of : ConnectionId) (other : Attribution) (v : Bool) → eqb (of .0) (conn .0) ≡ v
-          → byDial (dialAt of (rowsOf (tableOf (without (conn .0) (dialsOf l))))) other ≡ pick v other (punchedFor of es other)
+          → byDial (dialAt of (without (conn .0) (dialsOf l))) other ≡ pick v other (punchedFor of es other)
       go of other true e =
           dials-by of other _
-          (ap (findIn (of .0)) all
-          ∙ subst (λ (k : ℕ). findIn k (without (conn .0) (dialsOf l)) ≡ Nothing) (sym (eqb-true (of .0) (conn .0) e)) (find-without (conn .0) (dialsOf l)))
+          (subst (λ (k : ℕ). findIn k (without (conn .0) (dialsOf l)) ≡ Nothing)
+          (sym (eqb-true (of .0) (conn .0) e)) (find-without (conn .0) (dialsOf l)))
       go of other false e =
-          dials-same of other _ (dialsOf l) (ap (findIn (of .0)) all ∙ find-without-other (of .0) (conn .0) (eqb-false (of .0) (conn .0) e) (dialsOf l))
+          dials-same of other _ (dialsOf l) (find-without-other (of .0) (conn .0) (eqb-false (of .0) (conn .0) e) (dialsOf l))
           ∙ a .dials of other
 
   -- a connection gets a name, over an older one
   pub named-agrees : (conn : ConnectionId) (x : Attribution) (peer : PeerId) (circuit : Bool) (claim : Claim) (now : ℕ)
       → judgedBy l conn peer circuit claim now ≡ found.At x → crowded (conn .0) (pathsOf l) ≡ false
-      → Agrees (withPaths l (tableOf (inserted (pathRow conn x) (pathsOf l)))) (gotName conn ∷ es)
+      → Agrees (withPaths l (inserted (pathRow conn x) (pathsOf l))) (gotName conn ∷ es)
   unfolding attributed awaited punchedFor law.after dialing named expected
   named-agrees conn x peer circuit claim now e f =
       let o : InOrder (attributed l conn peer circuit claim now .ledger) = ordered l (a .order) (law.attribute conn peer circuit claim now) in
-      let r : InOrder (withPaths l (tableOf (inserted line (pathsOf l)))) = rw (e, f) at o in
+      let r : InOrder (withPaths l (inserted line (pathsOf l))) = rw (e, f) at o in
       record {
         windows = a .windows;
         dials = a .dials;
         order = r;
-        few-windows = a .few-windows;
-        few-dials = a .few-dials;
-        few-paths = table-64 (inserted line (pathsOf l));
         window-keys = a .window-keys;
         dial-keys = a .dial-keys;
-        path-keys = rw all (keys-inserted line (pathsOf l) (named es) (a .path-keys));
+        path-keys = keys-inserted line (pathsOf l) (named es) (a .path-keys);
         all-windows = a .all-windows;
       }
     where
       line : Row
       line = pathRow conn x
-
-      all : rowsOf (tableOf (inserted line (pathsOf l))) ≡ inserted line (pathsOf l)
-      all = rows-all (inserted line (pathsOf l)) (inserted-fits line (pathsOf l) f)

@@ -3,10 +3,10 @@
 use Prim.Native.Nat.{ℕ, _+_}
 use mathlib.Core.Path.{_≡_, refl, sym, ap, _∙_, subst}
 use mathlib.Core.Bool.{Bool, true, false}
-use mathlib.Core.List.{List, [], _∷_}
+use mathlib.Core.List.{List, [], _∷_, _++_}
 use native.Mathlib.Omega.{arith}
 use lib.Dec.{eqb, ltb}
-use lib.ListN.{replicate}
+use lib.ListN.{take, replicate}
 use Rattle.prelude.specs.Choice.{pick, both, no}
 use Rattle.ids.specs.declared.PeerId.{PeerId}
 use Rattle.ids.specs.declared.ConnectionId.{ConnectionId}
@@ -17,73 +17,76 @@ use Rattle.refusal.specs.declared.Refusal.{Refusal}
 use Rattle.refusal.specs.declared.Refusal.the-variants.{LedgerFull, NotStarted, UnknownLine, HandshakeTooLate}
 use Rattle.path.specs.declared.FoundPath.{FoundPath}
 use Rattle.path.specs.declared.FoundPath.the-variants as found
-use Rattle.path.specs.declared.Path.the-variants.{Relayed, Punched, Direct}
+use Rattle.path.specs.declared.Path.the-variants.{Relayed, Punched}
 use Rattle.path.specs.declared.Owner.the-variants.{Inbound, None}
 use Rattle.path.specs.declared.Claim.the-variants as claim
 use Rattle.path.specs.declared.DialPurpose.the-variants.{Punch}
 use Rattle.path.specs.Judged.{judged, circuitPath, directPath, byDial, byClaim, byWindow, unowned}
-use Rattle.rows.specs.Rows.{tableOf, inserted, crowded}
-use Rattle.entries.specs.Entries.{dialAt, windowOpen}
-use Rattle.ledger.specs.declared.PathLedger.{PathLedger}
-use Rattle.ledger.specs.declared.Recorded.{Recorded}
-use Rattle.ledger.specs.declared.Attributed.{Attributed}
+use Rattle.rows.specs.Rows.{inserted, crowded}
+use Rattle.entries.specs.Entries.{dialAt}
 use Rattle.ledger.specs.declared.Answer.the-variants as name
-use Rattle.ledger.specs.declared.Outcome.the-variants as recording
-use Rattle.ledger.specs.Ledger.{emptyLedger, dialsOf, windowsOf, pathsOf, withDials, withPaths, dialRow, pathRow, fullOr, dialStarted, forgotten, attributed, recorded, judgedBy, ticked, refusesPunches}
+use Rattle.ledger.specs.Ledger.{PathLedger, Attributed, emptyLedger, dialsOf, windowsOf, pathsOf, withDials, withPaths, dialRow, pathRow, fullOr, dialStarted, attributed, recorded, judgedBy, ticked, refusesPunches}
 use Rattle.budget.specs.declared.UpgradeBudget.{UpgradeBudget}
 use Rattle.candidates.specs.declared.Chosen.{Chosen}
-use Rattle.initiator.specs.declared.Framed.{Framed}
-use Rattle.inbound.specs.declared.Settings.{Settings}
-use Rattle.inbound.specs.declared.InboundCircuit.{InboundCircuit}
-use Rattle.inbound.specs.declared.Phase.{Phase}
-use Rattle.inbound.specs.declared.Host.{Host}
-use Rattle.inbound.specs.declared.StreamInput.{StreamInput}
-use Rattle.inbound.specs.declared.Outcome.{Outcome}
-use Rattle.inbound.specs.declared.Outcome.the-variants as outcome
-use Rattle.inbound.specs.declared.Answer.{Answer}
-use Rattle.inbound.specs.declared.Started.{Started}
-use Rattle.inbound.specs.Circuit.{startedOf, upOf, tickOf, wroteOf, downOf, isDone, claimOf, begunOf, newOf}
-use Rattle.inbound.specs.Input as circuit
+use Rattle.frames.specs.declared.Framed.{Framed}
+use Rattle.vocabulary.specs.declared.Settings.{Settings}
+use Rattle.vocabulary.specs.declared.Host.{Host}
+use Rattle.vocabulary.specs.declared.StreamInput.{StreamInput}
+use Rattle.vocabulary.specs.declared.Effect.{Effect}
+use Rattle.vocabulary.specs.declared.Effect.the-variants.{Nothing, Path, Burst, Upgrade, Close, Send, Reset, Open}
+use Rattle.vocabulary.specs.declared.Outcome.{Outcome}
+use Rattle.vocabulary.specs.declared.Outcome.the-variants as outcome
+use Rattle.inbound.specs.declared.state.Phase.{Phase}
+use Rattle.inbound.specs.declared.state.Phase.the-variants.{Handshaking, Done}
+use Rattle.inbound.specs.declared.decision.Message.{Message}
+use Rattle.inbound.specs.declared.decision.Message.the-variants as message
+use Rattle.inbound.specs.declared.decision.Decision.{Decision}
+use Rattle.inbound.specs.declared.circuit.InboundCircuit.{InboundCircuit}
+use Rattle.inbound.specs.declared.circuit.Answer.{Answer}
+use Rattle.inbound.specs.State.{isDone}
+use Rattle.inbound.specs.Decisions.{eventOf, silence, decidedOf, quietOf, refusedOf}
+use Rattle.inbound.specs.Carried.{messageOf, lengthOf, sentAfter}
+use Rattle.inbound.specs.Calls.{begunOf, startedOf, upOf, tickOf, wroteOf, downOf}
+use Rattle.inbound.specs.Circuits.{noFrame, noAims, answerOf, newAnswer, upAnswer, tickAnswer, decidedAt, inputAnswer, inputBuffer, wroteAnswer, downAnswer}
+use Rattle.inbound.specs.Questions.{claimOf}
 use Rattle.history.specs.Calls.{Call, up, input, tick, wrote, down, isRefused, stepOf}
-use Rattle.history.specs.Book.{Stage, Book, Who, fresh, note}
+use Rattle.history.specs.Book.{Stage, Who, fresh, note}
 use Rattle.history.specs.Demand3.{begun}
-use Rattle.history.specs.Tells.{Lot, stays, removed, until, Told, nothing, gathers, tells}
-use Rattle.history.specs.Answers.{saidBy, said, back, leaves, leftOf, Room, Noted, buffer, bufferIs, whoOf}
+use Rattle.history.specs.Tells.{Says, send, Lot, stays, removed, until, Told, nothing, gathers, tells}
+use Rattle.history.specs.Answers.{bytesOf, saidIn, saidBy, said, back, leaves, leftOf, Room, Noted, buffer, bufferIs, whoOf}
 use Rattle.history.specs.Questions.{isOver}
-use Rattle.history.proofs.Relation.{Begun, circuitOf, Together, in-handshake, in-exchange, in-window, at-end, Rel}
+use Rattle.history.proofs.Relation.{Begun, Together, in-handshake, in-exchange, in-window, at-end, Rel}
+use Rattle.history.proofs.Made.{framedIn, chosenIn}
 use Rattle.history.proofs.Run.{step-keeps, begun-rel}
-use Rattle.history.proofs.Answers.{step-answers, own-message}
+use Rattle.history.proofs.Answers.{step-answers}
 use Rattle.history.proofs.Buffers.{step-gives}
 use Rattle.journal_lines.specs.declared.Kind.{Kind}
 use Rattle.journal_lines.specs.declared.Kind.the-variants as kind
 use Rattle.fields.specs.declared.Maybe.the-variants as maybe
 use Rattle.fields.specs.declared.Pair.the-variants as pair
-use Rattle.inbound.specs.Input.{ownOf}
 use Rattle.journal_lines.specs.declared.Line.{Line}
 use Rattle.journal_lines.specs.declared.Line.the-variants.{Start, Up, Input, Tick, Wrote, Down, Dial, Forget, Attribute, Unknown}
-use Rattle.journal_turns.specs.declared.Journal.{Journal}
-use Rattle.journal_turns.specs.Turns.{newJournal, counted, withState, started, noEffects, silent, refused, naming, effectsOf, answered, liveOf, offerOf, hostOf, digitsBytes, inputOf, startIn, startTurn, upTurn, inputTurn, tickTurn, wroteTurn, downTurn, dialedBy, dialTurn, forgetTurn, claimFor, namedBy, attributeTurn, Taken, apart, needsStart, callTurn, turnOf, read, lineTurn}
-use Rattle.names.specs.Events.{Event, dialed, gotName, forgot, awaited, punchedFor, dialing, expected, isFull}
+use Rattle.journal_turns.specs.Turns.{Journal, newJournal, counted, started, noEffects, silent, refused, naming, effectsOf, Leaves, settled, liveOf, offerOf, hostOf, digitsBytes, inputOf, startIn, startTurn, ledgerBy, upTurn, inputTurn, expired, tickTurn, wroteTurn, downTurn, dialedBy, dialTurn, forgetTurn, claimFor, namedBy, attributeTurn, Taken, apart, turnOf, read, lineTurn}
+use Rattle.names.specs.Events.{Event, dialed, gotName, forgot, awaited, dialing, expected, isFull}
 use Rattle.names.specs.Events as event
-use Rattle.names.specs.Diary.{Diary, kindBy, hostBy, upBy, inputBy, tickBy, ofLot, called, adds, nameOf, isName, says, entered, Out, still, refusedBy, outBy, onceStarted, noRoom, number, blank, toldOf, nextOf, tellsLines, outOf, outs, NamesFollow}
+use Rattle.names.specs.Diary.{saysIn, Diary, kindBy, hostBy, upBy, inputBy, tickBy, ofLot, called, adds, nameOf, isName, says, entered, Out, still, refusedBy, outBy, onceStarted, noRoom, number, blank, toldOf, nextOf, tellsLines, outOf, outs, NamesFollow}
 use Rattle.names.proofs.Tallies.{keys-full}
 use Rattle.names.proofs.Agrees.{Agrees, empty-agrees, gave-up-agrees, replied-agrees, ticked-agrees, dialed-agrees, forgot-agrees, named-agrees}
 use Rattle.time.specs.Time.{last}
 use Rattle.refusal.specs.Number.{numberOf}
 use Rattle.fields.specs.declared.Maybe.{Maybe}
 use Rattle.fields.specs.declared.Pair.{Pair}
-use Rattle.wire.specs.Lists.{broken}
-use Rattle.inbound.specs.declared.Phase.the-variants.{Done}
+use Rattle.wire.specs.Lists.{broken, entries}
 use Rattle.history.specs.Numbers.{numberIn, answeredWith}
-use Rattle.history.specs.Refuses.{before, refuses, lendsBroken, lendsFull, turned}
+use Rattle.history.specs.Refuses.{refuses, lendsBroken, lendsFull, turned}
 use Rattle.history.proofs.Refuses.{some-number, step-refuses}
 
 -- what a line's words stand for, here and there
-host-same : (at : ℕ) (l : Maybe) (o : Pair) (list : List ℕ) → hostBy at l o list ≡ hostOf at l o list
+host-same : (at : ℕ) (l : Maybe) (o : Pair) → hostBy at l o ≡ hostOf at l o
 unfolding hostOf
-host-same at l o list = both-same l o
+host-same at l o = both-same l o
   where
-    both-same : (l : Maybe) (o : Pair) → hostBy at l o list ≡ record { at = at; live = liveOf l; offer = offerOf o; own = ownOf list }
+    both-same : (l : Maybe) (o : Pair) → hostBy at l o ≡ record { at = at; live = liveOf l; offer = offerOf o }
     both-same (maybe.Number v) (pair.Numbers conn stream) = refl
     both-same (maybe.Number v) pair.None = refl
     both-same maybe.None (pair.Numbers conn stream) = refl
@@ -94,6 +97,43 @@ kind-same kind.Ready = refl
 kind-same kind.Data = refl
 kind-same kind.End = refl
 kind-same kind.Closed = refl
+
+-- ---- what is said of a decision that is carried out, and of its answer
+
+-- the message in the bytes that are lent for it
+sent-bytes : (connect sent : List ℕ) (x : Message) → take (lengthOf x) (sentAfter connect sent x) ≡ bytesOf (messageOf connect x)
+unfolding lengthOf sentAfter messageOf
+sent-bytes connect sent message.None = refl
+sent-bytes connect sent (message.Connect n) = refl
+sent-bytes connect sent message.Sync = refl
+
+-- of a message no more is said than its bytes in use
+place-same : (a b : Framed) → bytesOf a ≡ bytesOf b → (targets : List (List ℕ)) (e : Effect) → saidIn a targets e ≡ saidIn b targets e
+place-same a b q targets Nothing = refl
+place-same a b q targets (Path peer relay conn) = refl
+place-same a b q targets (Burst times payload) = refl
+place-same a b q targets (Upgrade peer old new) = refl
+place-same a b q targets (Close conn) = refl
+place-same a b q targets (Send conn stream) = ap (λ (z : List ℕ). send conn stream z ∷ []) q
+place-same a b q targets (Reset conn stream) = refl
+place-same a b q targets (Open conn stream) = refl
+
+four : {a b c d e f g h : List Says} → a ≡ e → b ≡ f → c ≡ g → d ≡ h → a ++ (b ++ (c ++ d)) ≡ e ++ (f ++ (g ++ h))
+four p q r t = rw (p, q, r, t)
+
+said-same : (e : Decision) (after connect sent aims : List ℕ)
+    → saysIn (effectsOf e) (sentAfter connect sent (e .message)) aims ≡ saidBy (answerOf e after aims (messageOf connect (e .message)))
+unfolding effectsOf answerOf
+said-same e after connect sent aims = four (each (e .first)) (each (e .second)) (each (e .third)) (each (e .fourth))
+  where
+    lent : Framed
+    lent = record { bytes = sentAfter connect sent (e .message); len = lengthOf (e .message) }
+
+    aimed : List (List ℕ)
+    aimed = entries (take (e .core .targets) aims)
+
+    each : (x : Effect) → saidIn lent aimed x ≡ saidIn (messageOf connect (e .message)) aimed x
+    each = place-same lent (messageOf connect (e .message)) (sent-bytes connect sent (e .message)) aimed
 
 abbrev begunBy : Settings → Who → Begun
 begunBy s who = record { source = who .source; relay = who .relay; circuit = who .circuit; settings = s }
@@ -122,26 +162,39 @@ module _ (s : Settings) (j : Journal) (d : Diary) (m : Meets s j d) where
   lot-agrees removed r = gave-up-agrees (j .ledger) (d .events) (m .ledger) (d .who .source)
   lot-agrees (until deadline) r = replied-agrees (j .ledger) (d .events) (m .ledger) (d .who .source) deadline r
 
-  answer-follows : (a : Answer) (l : PathLedger) (after : List ℕ) (o : Outcome) (w : Told) (d′ : Diary) → d′ .who ≡ d .who → d′ .started ≡ d .started
-      → saidBy a ≡ pick (isRefused o) nothing w .said
-      → Rel (begunBy s (d .who)) (a .circuit) (pick (isRefused o) (d .book) (d′ .book))
-      → (isRefused o ≡ false → Agrees l (d′ .events))
-      → after ≡ pick (isRefused o) (d .reply) (d′ .reply)
-      → Follows s d (record { turn = answered j a l o; reply = after }) (numberIn o) (record { effects = w .said; name = []; number = 0 }) d′
-  unfolding effectsOf withState refused
-  answer-follows a l after outcome.Accepted w d′ q b e r g f =
-      record {
-        out = ap (λ x. record { effects = x; name = []; number = 0 }) e;
-        next = record {
-          settings = m .settings;
-          begun = m .begun ∙ sym b;
-          rel = subst (λ (z : Who). Rel (begunBy s z) (a .circuit) (d′ .book)) (sym q) r;
-          ledger = g refl;
-        };
-        reply = f;
-      }
-  answer-follows a l after (outcome.Refused why) w d′ q b e r g f =
-      record { out = rw (some-number why); next = rw (some-number why) m; reply = rw (some-number why) f }
+  -- a decision that is carried out, and what it answers
+  abbrev answerBy : Decision → Leaves → Answer
+  answerBy e x = answerOf e (x .connect) (x .targets) (messageOf (j .circuit .connect) (e .message))
+
+  settled-follows : (e : Decision) (x : Leaves) (after : List ℕ) (w : Told) (d′ : Diary) → d′ .who ≡ d .who → d′ .started ≡ d .started
+      → saidBy (answerBy e x) ≡ pick (isRefused (e .outcome)) nothing w .said
+      → Rel (begunBy s (d .who)) (answerBy e x .circuit) (pick (isRefused (e .outcome)) (d .book) (d′ .book))
+      → (isRefused (e .outcome) ≡ false → Agrees (x .ledger) (d′ .events))
+      → after ≡ pick (isRefused (e .outcome)) (d .reply) (d′ .reply)
+      → Follows s d (record { turn = settled j e x (e .outcome); reply = after }) (numberIn (e .outcome))
+      (record { effects = w .said; name = []; number = 0 }) d′
+  unfolding effectsOf refused answerOf
+  settled-follows e x after w d′ q b f r g h = go (e .outcome) f r g h
+    where
+      go : (o : Outcome) → saidBy (answerBy e x) ≡ pick (isRefused o) nothing w .said
+          → Rel (begunBy s (d .who)) (answerBy e x .circuit) (pick (isRefused o) (d .book) (d′ .book))
+          → (isRefused o ≡ false → Agrees (x .ledger) (d′ .events))
+          → after ≡ pick (isRefused o) (d .reply) (d′ .reply)
+          → Follows s d (record { turn = settled j e x o; reply = after }) (numberIn o) (record { effects = w .said; name = []; number = 0 }) d′
+      go outcome.Accepted f r g h =
+          record {
+            out = ap (λ (z : List Says). record { effects = z; name = []; number = 0 })
+                (said-same e (x .connect) (j .circuit .connect) (j .sent) (x .targets) ∙ f);
+            next = record {
+              settings = m .settings;
+              begun = m .begun ∙ sym b;
+              rel = subst (λ (z : Who). Rel (begunBy s z) (answerBy e x .circuit) (d′ .book)) (sym q) r;
+              ledger = g refl;
+            };
+            reply = h;
+          }
+      go (outcome.Refused why) f r g h =
+          record { out = rw (some-number why); next = rw (some-number why) m; reply = rw (some-number why) h }
 
 -- what is handed back
 first : PathLedger → List PathLedger → PathLedger
@@ -151,6 +204,12 @@ first l (x ∷ xs) = x
 buffer-of : List (List ℕ) → List ℕ
 buffer-of [] = []
 buffer-of (x ∷ xs) = x
+
+-- an accepted tick ticks the ledger
+expired-agrees : (o : Outcome) (l : PathLedger) (es : List Event) (at : ℕ) → isRefused o ≡ false → Agrees l es
+    → Agrees (expired o l at) (event.ticked at ∷ es)
+expired-agrees outcome.Accepted l es at q a = ticked-agrees l es a at
+expired-agrees (outcome.Refused why) l es at q a = absurd (let z : _≡_ {A = ℕ} 0 1 = cc in omega arith)
 
 same-reply : (v : Bool) (x : List ℕ) → x ≡ pick v x x
 same-reply true x = refl
@@ -176,65 +235,58 @@ module _ (s : Settings) (j : Journal) (d : Diary) (m : Meets s j d) where
   unfolding refusesPunches
   room-same = keys-full (d .who .source .0) (windowsOf (j .ledger)) (expected (d .events)) (m .ledger .window-keys)
 
-  up-follows : (at : ℕ) (l : Maybe) (o : Pair) (list : List ℕ) (peer : PeerId) (conn : ConnectionId) (relayed : Bool)
-      → Follows s d (apart (d .reply) (upTurn j (hostBy at l o list) peer conn relayed))
-      (refuses (broken list) false (d .book) (up emptyLedger (hostBy at l o list) peer conn relayed))
-      (says s d (up emptyLedger (hostBy at l o list) peer conn relayed))
-      (called s d (up emptyLedger (hostBy at l o list) peer conn relayed) (d .reply))
-  unfolding upTurn stepOf said back leftOf Noted tells note refuses lendsBroken lendsFull answeredWith
-  up-follows at l o list peer conn relayed =
-      let h : Host = hostBy at l o list in
-      let x : Call = up (j .ledger) h peer conn relayed in
+  up-follows : (at : ℕ) (l : Maybe) (o : Pair) (own : List ℕ) (peer : PeerId) (conn : ConnectionId) (relayed : Bool)
+      → Follows s d (apart (d .reply) (upTurn j (hostBy at l o) own peer conn relayed))
+      (refuses (broken own) false (d .book) (up emptyLedger (hostBy at l o) own peer conn relayed))
+      (says s d (up emptyLedger (hostBy at l o) own peer conn relayed))
+      (called s d (up emptyLedger (hostBy at l o) own peer conn relayed) (d .reply))
+  unfolding upTurn upAnswer answerOf stepOf said back leftOf Noted tells note refuses lendsBroken lendsFull answeredWith
+  up-follows at l o own peer conn relayed =
+      let h : Host = hostBy at l o in
+      let x : Call = up (j .ledger) h own peer conn relayed in
       let f = step-answers k (j .circuit) (d .book) (m .rel) x in
-      let a : Answer = upOf (j .circuit) (j .ledger) h peer conn relayed in
+      let e : Decision = upOf (j .circuit .core) h own peer conn relayed in
       let w : Told = tells s (d .who) (d .book) x in
-      numbered _
-      (step-refuses k (j .circuit) (d .book) (m .rel) x ∙ ap (λ (v : Bool). before v (d .book .stage) (h .offer) 0) (own-message list .whether))
-      (answer-follows s j d m a (a .ledger) (d .reply) (a .outcome) w _ refl refl (f .effects)
-      (step-keeps k (j .circuit) (d .book) (m .rel) x .rel)
-      (left-agrees (a .ledger) w (isRefused (a .outcome)) (f .ledgers) (f .room))
-      (same-reply (isRefused (a .outcome)) (d .reply)))
+      numbered _ (step-refuses k (j .circuit) (d .book) (m .rel) x)
+      (settled-follows s j d m e _ (d .reply) w _ refl refl (f .effects) (step-keeps k (j .circuit) (d .book) (m .rel) x .rel)
+      (left-agrees (ledgerBy j e) w (isRefused (e .outcome)) (f .ledgers) (f .room)) (same-reply (isRefused (e .outcome)) (d .reply)))
 
-  tick-follows : (at : ℕ) (l : Maybe) (o : Pair) (list : List ℕ)
-      → Follows s d (apart (d .reply) (tickTurn j (hostBy at l o list)))
-      (refuses (broken list) false (d .book) (tick emptyLedger (hostBy at l o list)))
-      (says s d (tick emptyLedger (hostBy at l o list)))
-      (adds (called s d (tick emptyLedger (hostBy at l o list)) (d .reply))
-      (event.ticked at ∷ called s d (tick emptyLedger (hostBy at l o list)) (d .reply) .events))
-  unfolding tickTurn stepOf said back leftOf Noted tells note refuses lendsBroken lendsFull answeredWith
-  tick-follows at l o list =
-      let h : Host = hostBy at l o list in
-      let x : Call = tick (j .ledger) h in
+  tick-follows : (at : ℕ) (l : Maybe) (o : Pair) (own : List ℕ)
+      → Follows s d (apart (d .reply) (tickTurn j (hostBy at l o) own))
+      (refuses (broken own) false (d .book) (tick emptyLedger (hostBy at l o) own))
+      (says s d (tick emptyLedger (hostBy at l o) own))
+      (adds (called s d (tick emptyLedger (hostBy at l o) own) (d .reply))
+      (event.ticked at ∷ called s d (tick emptyLedger (hostBy at l o) own) (d .reply) .events))
+  unfolding tickTurn tickAnswer answerOf stepOf said back leftOf Noted tells note refuses lendsBroken lendsFull answeredWith
+  tick-follows at l o own =
+      let h : Host = hostBy at l o in
+      let x : Call = tick (j .ledger) h own in
       let f = step-answers k (j .circuit) (d .book) (m .rel) x in
-      let a : Answer = tickOf (j .circuit) (j .ledger) h in
+      let e : Decision = tickOf (j .circuit .core) h own in
       let w : Told = tells s (d .who) (d .book) x in
-      numbered _
-      (step-refuses k (j .circuit) (d .book) (m .rel) x ∙ ap (λ (v : Bool). before v (d .book .stage) (h .offer) 0) (own-message list .whether))
-      (answer-follows s j d m a (ticked (a .ledger) at) (d .reply) (a .outcome) w _ refl refl (f .effects)
-      (step-keeps k (j .circuit) (d .book) (m .rel) x .rel)
-      (λ e. ticked-agrees (a .ledger) _ (left-agrees (a .ledger) w (isRefused (a .outcome)) (f .ledgers) (f .room) e) at)
-      (same-reply (isRefused (a .outcome)) (d .reply)))
+      numbered _ (step-refuses k (j .circuit) (d .book) (m .rel) x)
+      (settled-follows s j d m e _ (d .reply) w _ refl refl (f .effects) (step-keeps k (j .circuit) (d .book) (m .rel) x .rel)
+      (λ q. expired-agrees (e .outcome) (ledgerBy j e) _ at q
+      (left-agrees (ledgerBy j e) w (isRefused (e .outcome)) (f .ledgers) (f .room) q))
+      (same-reply (isRefused (e .outcome)) (d .reply)))
 
-  input-follows : (at : ℕ) (l : Maybe) (o : Pair) (list : List ℕ) (stream : StreamId) (kind : Kind) (bytes : List ℕ) (pending : Bool)
-      → Follows s d (inputTurn j (hostBy at l o list) (d .reply) stream kind bytes pending)
-      (refuses (broken list) (noRoom d) (d .book) (input emptyLedger (d .reply) (hostBy at l o list) stream (inputOf kind) bytes pending))
-      (says s d (input emptyLedger (d .reply) (hostBy at l o list) stream (inputOf kind) bytes pending))
-      (called s d (input emptyLedger (d .reply) (hostBy at l o list) stream (inputOf kind) bytes pending)
-      (gathers (hostBy at l o list) (d .reply) stream (inputOf kind) bytes (d .book .stage)))
-  unfolding inputTurn stepOf said back leftOf Noted tells note buffer bufferIs buffer-of refuses lendsBroken lendsFull answeredWith
-  input-follows at l o list stream kind bytes pending =
-      let h : Host = hostBy at l o list in
-      let x : Call = input (j .ledger) (d .reply) h stream (inputOf kind) bytes pending in
+  input-follows : (at : ℕ) (l : Maybe) (o : Pair) (own : List ℕ) (stream : StreamId) (kind : Kind) (bytes : List ℕ) (pending : Bool)
+      → Follows s d (inputTurn j (hostBy at l o) own (d .reply) stream kind bytes pending)
+      (refuses (broken own) (noRoom d) (d .book) (input emptyLedger (d .reply) (hostBy at l o) own stream (inputOf kind) bytes pending))
+      (says s d (input emptyLedger (d .reply) (hostBy at l o) own stream (inputOf kind) bytes pending))
+      (called s d (input emptyLedger (d .reply) (hostBy at l o) own stream (inputOf kind) bytes pending)
+      (gathers (hostBy at l o) (d .reply) stream (inputOf kind) bytes (d .book .stage)))
+  unfolding inputTurn inputAnswer inputBuffer answerOf stepOf said back leftOf Noted tells note buffer bufferIs buffer-of refuses lendsBroken lendsFull answeredWith
+  input-follows at l o own stream kind bytes pending =
+      let h : Host = hostBy at l o in
+      let x : Call = input (j .ledger) (d .reply) h own stream (inputOf kind) bytes pending in
       let f = step-answers k (j .circuit) (d .book) (m .rel) x in
-      let a : Answer = circuit.inputOf (j .circuit) (j .ledger) h (d .reply) stream (inputOf kind) bytes pending .answer in
+      let e : Decision = decidedAt (j .circuit) (j .ledger) h own (d .reply) stream (inputOf kind) bytes pending in
       let w : Told = tells s (d .who) (d .book) x in
       numbered _
-      (step-refuses k (j .circuit) (d .book) (m .rel) x
-      ∙ ap (λ (v : Bool). refuses v (refusesPunches (j .ledger) (d .who .source)) (d .book) x) (own-message list .whether)
-      ∙ ap (λ (v : Bool). refuses (broken list) v (d .book) x) room-same)
-      (answer-follows s j d m a (a .ledger) _ (a .outcome) w _ refl refl (f .effects)
-      (step-keeps k (j .circuit) (d .book) (m .rel) x .rel)
-      (left-agrees (a .ledger) w (isRefused (a .outcome)) (f .ledgers) (f .room))
+      (step-refuses k (j .circuit) (d .book) (m .rel) x ∙ ap (λ (v : Bool). refuses (broken own) v (d .book) x) room-same)
+      (settled-follows s j d m e _ _ w _ refl refl (f .effects) (step-keeps k (j .circuit) (d .book) (m .rel) x .rel)
+      (left-agrees (ledgerBy j e) w (isRefused (e .outcome)) (f .ledgers) (f .room))
       (ap buffer-of (step-gives k (j .circuit) (d .book) (m .rel) x)))
 
   -- ---- a line without effects
@@ -245,44 +297,51 @@ module _ (s : Settings) (j : Journal) (d : Diary) (m : Meets s j d) where
 
   wrote-follows : (at : ℕ) (conn : ConnectionId) (stream : StreamId)
       → Follows s d (apart (d .reply) (wroteTurn j at conn stream)) 0 still (called s d (wrote at conn stream) (d .reply))
-  unfolding wroteTurn withState stepOf tells
+  unfolding wroteTurn wroteOf quietOf decidedOf silence eventOf effectsOf wroteAnswer answerOf stepOf tells
   wrote-follows at conn stream =
-      silent-follows _ (called s d (wrote at conn stream) (d .reply)) refl
-      (record {
-        settings = m .settings;
-        begun = m .begun;
-        rel = step-keeps k (j .circuit) (d .book) (m .rel) (wrote at conn stream) .rel;
-        ledger = m .ledger;
-      })
+      record {
+        out = refl;
+        next = record {
+          settings = m .settings;
+          begun = m .begun;
+          rel = step-keeps k (j .circuit) (d .book) (m .rel) (wrote at conn stream) .rel;
+          ledger = m .ledger;
+        };
+        reply = refl;
+      }
 
   down-follows : (at : ℕ) (peer : PeerId) (conn : ConnectionId)
       → Follows s d (apart (d .reply) (downTurn j conn)) 0 still (called s d (down at peer conn) (d .reply))
-  unfolding downTurn withState stepOf tells
+  unfolding downTurn downOf quietOf decidedOf silence eventOf effectsOf downAnswer answerOf stepOf tells
   down-follows at peer conn =
-      silent-follows _ (called s d (down at peer conn) (d .reply)) refl
-      (record {
-        settings = m .settings;
-        begun = m .begun;
-        rel = step-keeps k (j .circuit) (d .book) (m .rel) (down at peer conn) .rel;
-        ledger = m .ledger;
-      })
+      record {
+        out = refl;
+        next = record {
+          settings = m .settings;
+          begun = m .begun;
+          rel = step-keeps k (j .circuit) (d .book) (m .rel) (down at peer conn) .rel;
+          ledger = m .ledger;
+        };
+        reply = refl;
+      }
 
   start-follows : (at : ℕ) (source relay : PeerId) (conn : ConnectionId)
       → Follows s d (apart (d .reply) (startTurn j at source relay conn)) (pick (ltb last (at + s .handshake)) 3 0) still
       (record { started = true; who = whoOf source relay conn; book = fresh s at; reply = d .reply; events = d .events })
-  unfolding startTurn started startedOf
+  unfolding startTurn started startedOf newAnswer answerOf quietOf refusedOf decidedOf
   start-follows at source relay conn =
       subst
       (λ (z : Settings). Follows s d (apart (d .reply) (startIn j (startedOf source relay conn z at))) (pick (ltb last (at + s .handshake)) 3 0) still
       (record { started = true; who = whoOf source relay conn; book = fresh s at; reply = d .reply; events = d .events }))
       (sym (m .settings)) (go (ltb last (at + s .handshake)) (begun-rel source relay conn s at))
     where
-      made : Bool → Started
+      made : Bool → Decision
       made v =
-          pick v (record { circuit = begunOf source relay conn s (Done false); outcome = outcome.Refused HandshakeTooLate })
-          (record { circuit = newOf source relay conn s at; outcome = outcome.Accepted })
+          pick v (refusedOf (begunOf source relay conn s (Done false)) HandshakeTooLate)
+          (quietOf (begunOf source relay conn s (Handshaking (at + s .handshake))))
 
-      go : (v : Bool) → Rel (begunBy s (whoOf source relay conn)) (made v .circuit) (fresh s at)
+      go : (v : Bool) → Rel (begunBy s (whoOf source relay conn)) (record { core = made v .core; connect = noFrame; targets = noAims })
+          (fresh s at)
           → Follows s d (apart (d .reply) (startIn j (made v))) (pick v 3 0) still
           (record { started = true; who = whoOf source relay conn; book = fresh s at; reply = d .reply; events = d .events })
       go true r = refused-follows s j d m HandshakeTooLate still _
@@ -293,12 +352,12 @@ module _ (s : Settings) (j : Journal) (d : Diary) (m : Meets s j d) where
   dial-follows : (conn : ConnectionId) (token : NatToken) (id : ConnectId)
       → Follows s d (apart (d .reply) (dialTurn j conn token id)) (pick (isFull (conn .0) (dialing (d .events))) 4 0) still
       (adds d (dialed conn id ∷ d .events))
-  unfolding dialTurn dialStarted withState
+  unfolding dialTurn dialStarted
   dial-follows conn token id =
       rw (← keys-full (conn .0) (dialsOf (j .ledger)) (dialing (d .events)) (m .ledger .dial-keys)) (go (crowded (conn .0) (dialsOf (j .ledger))) refl)
     where
       changed : PathLedger
-      changed = withDials (j .ledger) (tableOf (inserted (dialRow conn token (Punch id)) (dialsOf (j .ledger))))
+      changed = withDials (j .ledger) (inserted (dialRow conn token (Punch id)) (dialsOf (j .ledger)))
 
       go : (v : Bool) → crowded (conn .0) (dialsOf (j .ledger)) ≡ v
           → Follows s d (apart (d .reply) (dialedBy j (fullOr v (j .ledger) changed .ledger) (fullOr v (j .ledger) changed .outcome))) (pick v 4 0) still
@@ -314,7 +373,7 @@ module _ (s : Settings) (j : Journal) (d : Diary) (m : Meets s j d) where
           })
 
   forget-follows : (conn : ConnectionId) → Follows s d (apart (d .reply) (forgetTurn j conn)) 0 still (adds d (forgot conn ∷ d .events))
-  unfolding forgetTurn withState
+  unfolding forgetTurn
   forget-follows conn =
       silent-follows _ (adds d (forgot conn ∷ d .events)) refl
       (record {
@@ -334,13 +393,14 @@ module _ (s : Settings) (j : Journal) (d : Diary) (m : Meets s j d) where
   done-over p g f t deadline rounds stage (at-end promoted) = refl
 
   judged-named : (at : ℕ) (peer : PeerId) (conn : ConnectionId) (relayed : Bool)
-      → judgedBy (j .ledger) conn peer relayed (claimFor (j .circuit) conn relayed) at ≡ nameOf d at peer conn relayed
+      → judgedBy (j .ledger) conn peer relayed (claimFor (j .circuit .core) conn relayed) at ≡ nameOf d at peer conn relayed
   unfolding judgedBy judged circuitPath directPath byClaim byWindow claimFor claimOf
   judged-named at peer conn true =
       rw (
-        ap (λ (c : InboundCircuit). c .circuit) (m .rel .shape),
-        ap (λ (c : InboundCircuit). c .relay) (m .rel .shape),
-        done-over (j .circuit .phase) (j .circuit .budget) (j .circuit .connect) (j .circuit .targets) (d .book .deadline) (d .book .rounds) (d .book .stage) (m .rel .together),
+        ap (λ (c : InboundCircuit). c .core .circuit) (m .rel .shape),
+        ap (λ (c : InboundCircuit). c .core .relay) (m .rel .shape),
+        done-over (j .circuit .core .phase) (j .circuit .core .budget) (framedIn (j .circuit)) (chosenIn (j .circuit))
+            (d .book .deadline) (d .book .rounds) (d .book .stage) (m .rel .together),
       )
       (go (both (eqb (conn .0) (d .who .circuit .0)) (no (isOver (d .book .stage)))))
     where
@@ -356,12 +416,12 @@ module _ (s : Settings) (j : Journal) (d : Diary) (m : Meets s j d) where
 
   -- a name is recorded where it is no 65th; without a name no row is needed
   named-follows : (at : ℕ) (peer : PeerId) (conn : ConnectionId) (relayed : Bool) (f : FoundPath)
-      → judgedBy (j .ledger) conn peer relayed (claimFor (j .circuit) conn relayed) at ≡ f
+      → judgedBy (j .ledger) conn peer relayed (claimFor (j .circuit .core) conn relayed) at ≡ f
       → Follows s d (apart (d .reply) (namedBy j (recorded (j .ledger) conn f .ledger) (recorded (j .ledger) conn f .answer)))
       (pick (both (isName f) (isFull (conn .0) (event.named (d .events)))) 4 0)
       (record { effects = []; name = f ∷ []; number = 0 })
       (adds d (pick (isName f) (gotName conn ∷ d .events) (d .events)))
-  unfolding naming withState
+  unfolding naming
   named-follows at peer conn relayed found.None e =
       record { out = refl; next = record { settings = m .settings; begun = m .begun; rel = m .rel; ledger = m .ledger }; reply = refl }
   named-follows at peer conn relayed (found.At x) e =
@@ -370,7 +430,7 @@ module _ (s : Settings) (j : Journal) (d : Diary) (m : Meets s j d) where
       one : Bool → Attributed
       one v =
           pick v (record { ledger = j .ledger; answer = name.Refused LedgerFull })
-          (record { ledger = withPaths (j .ledger) (tableOf (inserted (pathRow conn x) (pathsOf (j .ledger)))); answer = name.Path x })
+          (record { ledger = withPaths (j .ledger) (inserted (pathRow conn x) (pathsOf (j .ledger))); answer = name.Path x })
 
       go : (v : Bool) → crowded (conn .0) (pathsOf (j .ledger)) ≡ v
           → Follows s d (apart (d .reply) (namedBy j (one v .ledger) (one v .answer))) (pick v 4 0) (record { effects = []; name = found.At x ∷ []; number = 0 })
@@ -383,7 +443,7 @@ module _ (s : Settings) (j : Journal) (d : Diary) (m : Meets s j d) where
               settings = m .settings;
               begun = m .begun;
               rel = m .rel;
-              ledger = named-agrees (j .ledger) (d .events) (m .ledger) conn x peer relayed (claimFor (j .circuit) conn relayed) at e q;
+              ledger = named-agrees (j .ledger) (d .events) (m .ledger) conn x peer relayed (claimFor (j .circuit .core) conn relayed) at e q;
             };
             reply = refl;
           }
@@ -396,7 +456,7 @@ module _ (s : Settings) (j : Journal) (d : Diary) (m : Meets s j d) where
   unfolding attributeTurn attributed
   attribute-follows at peer conn relayed =
       rw (← judged-named at peer conn relayed)
-      (named-follows at peer conn relayed (judgedBy (j .ledger) conn peer relayed (claimFor (j .circuit) conn relayed) at) refl)
+      (named-follows at peer conn relayed (judgedBy (j .ledger) conn peer relayed (claimFor (j .circuit .core) conn relayed) at) refl)
 
 -- ---- a line
 
@@ -418,35 +478,35 @@ module _ (s : Settings) (j : Journal) (d : Diary) (m : Meets s j d) where
   turn-follows line (Up at peer conn relayed l o pending own) =
       once _ _ _ _
       (subst
-      (λ (h : Host). Follows s d (apart (d .reply) (upTurn j h peer conn relayed))
+      (λ (h : Host). Follows s d (apart (d .reply) (upTurn j h (digitsBytes line own) peer conn relayed))
       (refuses (broken (digitsBytes line own)) false (d .book) (upBy line at peer conn relayed l o own))
       (says s d (upBy line at peer conn relayed l o own)) (called s d (upBy line at peer conn relayed l o own) (d .reply)))
-      (host-same at l o (digitsBytes line own)) (up-follows s j d m at l o (digitsBytes line own) peer conn relayed))
+      (host-same at l o) (up-follows s j d m at l o (digitsBytes line own) peer conn relayed))
   turn-follows line (Input at stream kind bytes l o pending own) =
       once _ _ _ _
       (subst
-      (λ (h : Host). Follows s d (inputTurn j h (d .reply) stream kind (digitsBytes line bytes) pending)
+      (λ (h : Host). Follows s d (inputTurn j h (digitsBytes line own) (d .reply) stream kind (digitsBytes line bytes) pending)
       (refuses (broken (digitsBytes line own)) (noRoom d) (d .book) (inputBy line (d .reply) at stream kind bytes l o pending own))
       (says s d (inputBy line (d .reply) at stream kind bytes l o pending own))
       (called s d (inputBy line (d .reply) at stream kind bytes l o pending own)
-      (gathers (hostBy at l o (digitsBytes line own)) (d .reply) stream (kindBy kind) (digitsBytes line bytes) (d .book .stage))))
-      (host-same at l o (digitsBytes line own))
+      (gathers (hostBy at l o) (d .reply) stream (kindBy kind) (digitsBytes line bytes) (d .book .stage))))
+      (host-same at l o)
       (subst
       (λ (v : StreamInput). Follows s d
-      (inputTurn j (hostBy at l o (digitsBytes line own)) (d .reply) stream kind (digitsBytes line bytes) pending)
+      (inputTurn j (hostBy at l o) (digitsBytes line own) (d .reply) stream kind (digitsBytes line bytes) pending)
       (refuses (broken (digitsBytes line own)) (noRoom d) (d .book)
-      (input emptyLedger (d .reply) (hostBy at l o (digitsBytes line own)) stream v (digitsBytes line bytes) pending))
-      (says s d (input emptyLedger (d .reply) (hostBy at l o (digitsBytes line own)) stream v (digitsBytes line bytes) pending))
-      (called s d (input emptyLedger (d .reply) (hostBy at l o (digitsBytes line own)) stream v (digitsBytes line bytes) pending)
-      (gathers (hostBy at l o (digitsBytes line own)) (d .reply) stream v (digitsBytes line bytes) (d .book .stage))))
+      (input emptyLedger (d .reply) (hostBy at l o) (digitsBytes line own) stream v (digitsBytes line bytes) pending))
+      (says s d (input emptyLedger (d .reply) (hostBy at l o) (digitsBytes line own) stream v (digitsBytes line bytes) pending))
+      (called s d (input emptyLedger (d .reply) (hostBy at l o) (digitsBytes line own) stream v (digitsBytes line bytes) pending)
+      (gathers (hostBy at l o) (d .reply) stream v (digitsBytes line bytes) (d .book .stage))))
       (kind-same kind) (input-follows s j d m at l o (digitsBytes line own) stream kind (digitsBytes line bytes) pending)))
   turn-follows line (Tick at l o own) =
       once _ _ _ _
       (subst
-      (λ (h : Host). Follows s d (apart (d .reply) (tickTurn j h))
+      (λ (h : Host). Follows s d (apart (d .reply) (tickTurn j h (digitsBytes line own)))
       (refuses (broken (digitsBytes line own)) false (d .book) (tickBy line at l o own)) (says s d (tickBy line at l o own))
       (adds (called s d (tickBy line at l o own) (d .reply)) (event.ticked at ∷ called s d (tickBy line at l o own) (d .reply) .events)))
-      (host-same at l o (digitsBytes line own)) (tick-follows s j d m at l o (digitsBytes line own)))
+      (host-same at l o) (tick-follows s j d m at l o (digitsBytes line own)))
   turn-follows line (Wrote at conn stream) = once _ _ _ _ (wrote-follows s j d m at conn stream)
   turn-follows line (Down at peer conn) = once _ _ _ _ (down-follows s j d m at peer conn)
   turn-follows line (Dial at conn token id) = once _ _ _ _ (dial-follows s j d m conn token id)
@@ -476,7 +536,7 @@ all-follow s (l ∷ ls) j d m reply e =
     (all-follow s ls (lineTurn j reply (l .0) (l .1) .turn .journal) (nextOf s (l .0) d call) (f .next) (lineTurn j reply (l .0) (l .1) .reply) (f .reply)))
 
 pub names-follow : NamesFollow
-unfolding newJournal
+unfolding newJournal newAnswer answerOf
 names-follow s lines =
     all-follow s lines (newJournal s) (blank s)
     (record {

@@ -5,32 +5,32 @@ use Prim.Native.Nat.{ℕ, _+_}
 use mathlib.Core.Bool.{Bool, true, false}
 use mathlib.Core.List.{List, [], _∷_, _++_}
 use lib.Dec.{eqb, ltb}
-use lib.ListN.{replicate}
+use lib.ListN.{take, replicate}
 use Rattle.prelude.specs.Choice.{pick, both, no}
 use Rattle.time.specs.Time.{last}
 use Rattle.ids.specs.declared.PeerId.{PeerId}
 use Rattle.ids.specs.declared.ConnectionId.{ConnectionId}
 use Rattle.ids.specs.declared.StreamId.{StreamId}
 use Rattle.refusal.specs.Number.{numberOf}
-use Rattle.wire.specs.Lists.{broken}
+use Rattle.wire.specs.Lists.{broken, entries}
 use Rattle.path.specs.declared.Path.the-variants.{Relayed}
 use Rattle.path.specs.declared.Owner.the-variants.{Inbound}
 use Rattle.path.specs.declared.FoundPath.{FoundPath}
 use Rattle.path.specs.declared.FoundPath.the-variants as found
+use Rattle.frames.specs.declared.Framed.{Framed}
 use Rattle.ledger.specs.Ledger.{emptyLedger}
 use Rattle.fields.specs.declared.Maybe.{Maybe}
 use Rattle.fields.specs.declared.Pair.{Pair}
 use Rattle.fields.specs.declared.Maybe.the-variants as maybe
 use Rattle.fields.specs.declared.Pair.the-variants as pair
-use Rattle.inbound.specs.declared.Settings.{Settings}
-use Rattle.inbound.specs.declared.Host.{Host}
-use Rattle.inbound.specs.declared.Live.{Live}
-use Rattle.inbound.specs.declared.Live.the-variants as live
-use Rattle.inbound.specs.declared.Offer.{Offer}
-use Rattle.inbound.specs.declared.Offer.the-variants as offer
-use Rattle.inbound.specs.declared.StreamInput.{StreamInput}
-use Rattle.inbound.specs.declared.StreamInput.the-variants as stream
-use Rattle.inbound.specs.Input.{ownOf}
+use Rattle.vocabulary.specs.declared.Settings.{Settings}
+use Rattle.vocabulary.specs.declared.Host.{Host}
+use Rattle.vocabulary.specs.declared.Live.{Live}
+use Rattle.vocabulary.specs.declared.Live.the-variants as live
+use Rattle.vocabulary.specs.declared.Offer.{Offer}
+use Rattle.vocabulary.specs.declared.Offer.the-variants as offer
+use Rattle.vocabulary.specs.declared.StreamInput.{StreamInput}
+use Rattle.vocabulary.specs.declared.StreamInput.the-variants as stream
 use Rattle.history.specs.Calls.{Call, up, input, tick, wrote, down}
 use Rattle.history.specs.Book.{Book, Who, fresh, note}
 use Rattle.history.specs.Refuses.{refuses, turned}
@@ -43,11 +43,9 @@ use Rattle.journal_lines.specs.declared.Kind.the-variants as kind
 use Rattle.journal_lines.specs.declared.Line.{Line}
 use Rattle.journal_lines.specs.declared.Line.the-variants.{Start, Up, Input, Tick, Wrote, Down, Dial, Forget, Attribute, Unknown}
 use Rattle.journal_effects.specs.declared.Effects.{Effects}
-use Rattle.journal_turns.specs.declared.Journal.{Journal}
-use Rattle.journal_turns.specs.declared.Turn.{Turn}
 use Rattle.journal_turns.specs.declared.Said.{Said}
 use Rattle.journal_turns.specs.declared.Said.the-variants as said
-use Rattle.journal_turns.specs.Turns.{newJournal, digitsBytes, read, lineTurn}
+use Rattle.journal_turns.specs.Turns.{Journal, Turned, newJournal, digitsBytes, read, lineTurn}
 use Rattle.names.specs.Events.{Event, dialed, gotName, forgot, replied, gaveUp, ticked, directName, dialing, named, expected, isFull}
 
 pub record Diary : Type 0 where
@@ -74,19 +72,19 @@ kindBy kind.Data = stream.Data
 kindBy kind.End = stream.RemoteWriteClosed
 kindBy kind.Closed = stream.Closed
 
-abbrev pub hostBy : ℕ → Maybe → Pair → List ℕ → Host
-hostBy at l o own = record { at = at; live = liveBy l; offer = offerBy o; own = ownOf own }
+abbrev pub hostBy : ℕ → Maybe → Pair → Host
+hostBy at l o = record { at = at; live = liveBy l; offer = offerBy o }
 
 -- the book does not look at the ledger that is lent
 abbrev pub upBy : List ℕ → ℕ → PeerId → ConnectionId → Bool → Maybe → Pair → Digits → Call
-upBy line at peer conn relayed l o own = up emptyLedger (hostBy at l o (digitsBytes line own)) peer conn relayed
+upBy line at peer conn relayed l o own = up emptyLedger (hostBy at l o) (digitsBytes line own) peer conn relayed
 
 abbrev pub inputBy : List ℕ → List ℕ → ℕ → StreamId → Kind → Digits → Maybe → Pair → Bool → Digits → Call
 inputBy line reply at stream k bytes l o pending own =
-    input emptyLedger reply (hostBy at l o (digitsBytes line own)) stream (kindBy k) (digitsBytes line bytes) pending
+    input emptyLedger reply (hostBy at l o) (digitsBytes line own) stream (kindBy k) (digitsBytes line bytes) pending
 
 abbrev pub tickBy : List ℕ → ℕ → Maybe → Pair → Digits → Call
-tickBy line at l o own = tick emptyLedger (hostBy at l o (digitsBytes line own))
+tickBy line at l o own = tick emptyLedger (hostBy at l o) (digitsBytes line own)
 
 -- ---- what an accepted line adds
 
@@ -128,7 +126,7 @@ entered s line d (Start at source relay conn) =
 entered s line d (Up at peer conn relayed l o pending own) = called s d (upBy line at peer conn relayed l o own) (d .reply)
 entered s line d (Input at stream k bytes l o pending own) =
     called s d (inputBy line (d .reply) at stream k bytes l o pending own)
-    (gathers (hostBy at l o (digitsBytes line own)) (d .reply) stream (kindBy k) (digitsBytes line bytes) (d .book .stage))
+    (gathers (hostBy at l o) (d .reply) stream (kindBy k) (digitsBytes line bytes) (d .book .stage))
 entered s line d (Tick at l o own) = adds after (ticked at ∷ after .events)
   where
     after : Diary
@@ -220,18 +218,25 @@ tellsLines s d (l ∷ ls) = toldOf s (l .0) d (read (l .0) (l .1)) ∷ tellsLine
 
 -- ---- what the journal says
 
-abbrev pub saysIn : Effects → List Says
-saysIn e =
-    saidIn (e .message) (e .targets) (e .first)
-    ++ (saidIn (e .message) (e .targets) (e .second) ++ (saidIn (e .message) (e .targets) (e .third) ++ saidIn (e .message) (e .targets) (e .fourth)))
+-- the four places, with the message in the bytes that are lent for it, and the targets in those of the circuit
+abbrev pub saysIn : Effects → (sent aims : List ℕ) → List Says
+saysIn e sent aims =
+    saidIn message targets (e .first)
+    ++ (saidIn message targets (e .second) ++ (saidIn message targets (e .third) ++ saidIn message targets (e .fourth)))
+  where
+    message : Framed
+    message = record { bytes = sent; len = e .message }
 
-abbrev pub outIn : Effects → Said → Out
-outIn e said.Effects = record { effects = saysIn e; name = []; number = 0 }
-outIn e (said.Attributed f) = record { effects = []; name = f ∷ []; number = 0 }
-outIn e (said.Refused why) = refusedBy (numberOf why)
+    targets : List (List ℕ)
+    targets = entries (take (e .targets) aims)
 
-abbrev pub outOf : Turn → Out
-outOf t = outIn (t .effects) (t .said)
+abbrev pub outIn : Effects → (sent aims : List ℕ) → Said → Out
+outIn e sent aims said.Effects = record { effects = saysIn e sent aims; name = []; number = 0 }
+outIn e sent aims (said.Attributed f) = record { effects = []; name = f ∷ []; number = 0 }
+outIn e sent aims (said.Refused why) = refusedBy (numberOf why)
+
+abbrev pub outOf : Turned → Out
+outOf t = outIn (t .effects) (t .journal .sent) (t .journal .circuit .targets) (t .said)
 
 unfoldable pub outs : Journal → List ℕ → List (List ℕ × Bool) → List Out
 outs j reply [] = []

@@ -1,37 +1,28 @@
 -- What callers of the tables lean on: what is found after a row is inserted or rows are removed, lengths, order. Assumes nothing.
-use Prim.Native.Nat.{ℕ, zero, suc, _≤_, _<_, _+_}
+use Prim.Native.Nat.{ℕ, suc, _≤_, _<_, _+_}
 use mathlib.Core.Path.{_≡_, refl, ap, sym, _∙_}
 use mathlib.Core.Bool.{Bool, true, false}
 use mathlib.Core.List.{List, [], _∷_, _++_}
 use native.Mathlib.Omega.{arith}
 use borrow.Author.Tests.{ltb-true, ltb-false, lt-ltb, le-ltb, eqb-true, eq-eqb, ne-eqb, leb-true, leb-false, le-leb}
-use lib.ListN.{length, take, length-append}
-use lib.Seq.{take-all}
+use lib.ListN.{length, length-append}
 use lib.Dec.{eqb, ltb}
 use Rattle.prelude.specs.Choice.{pick, no}
 use Rattle.rows.specs.declared.Row.{Row}
 use Rattle.rows.specs.declared.Found.{Found}
 use Rattle.rows.specs.declared.Found.the-variants.{At, Nothing}
 use Rattle.rows.specs.declared.Keep.the-variants.{Below as KeepBelow, Above as KeepAbove, Other as KeepOther}
-use Rattle.rows.specs.Rows.{rowsOf, tableOf, findIn, such, keepsRow, kept, without, inserted, crowded}
+use Rattle.rows.specs.declared.Entry.{Entry}
+use Rattle.rows.specs.Kinds.{entryOf, rowOf}
+use Rattle.rows.specs.Rows.{findIn, such, keepsRow, kept, without, inserted, crowded}
 use Rattle.rows.specs.Ascending.{Below, Ascending}
 use Rattle.rows.specs.Ascending.Below.{none as below-none, more as below-more}
 use Rattle.rows.specs.Ascending.Ascending.{none as ascending-none, more as ascending-more}
-use Rattle.rows.proofs.Lists.{rows-tableOf, such-≤, none-removed, one-removed}
-
--- a list of at most 64 rows is the list of its table
-pub rows-all : (rs : List Row) → length rs ≤ 64 → rowsOf (tableOf rs) ≡ rs
-rows-all rs h = rows-tableOf rs ∙ take-all 64 rs h
+use Rattle.rows.proofs.EntryRows.{entry-back}
+use Rattle.rows.proofs.Lists.{ne-lt, such-≤, none-removed, one-removed}
 
 both-ways : {A : Type 0} → true ≡ false → A
 both-ways e = let z : _≡_ {A = ℕ} 0 1 = cc in absurd (omega arith)
-
-ne-lt : (a b : ℕ) → (a ≡ b → ⊥) → b ≤ a → b < a
-ne-lt a b n l = go (ltb b a) refl
-  where
-    go : (t : Bool) → ltb b a ≡ t → b < a
-    go true e = ltb-true b a e
-    go false e = let q = ltb-false b a e in absurd (n (omega arith))
 
 -- ---- found after rows are dropped
 module _ (k : ℕ) (p : Row → Bool) where
@@ -41,7 +32,7 @@ module _ (k : ℕ) (p : Row → Bool) where
   find-kept h (r ∷ rs) = go (eqb (r .key) k) refl (p r) refl (find-kept h rs)
     where
       go : (t : Bool) → eqb (r .key) k ≡ t → (q : Bool) → p r ≡ q → findIn k (such p rs) ≡ findIn k rs
-          → findIn k (pick q (r ∷ such p rs) (such p rs)) ≡ pick t (At (r .entry)) (findIn k rs)
+          → findIn k (pick q (r ∷ such p rs) (such p rs)) ≡ pick t (At (entryOf r)) (findIn k rs)
       go true e true f ih = simp e
       go true e false f ih = both-ways (sym (h r (eqb-true (r .key) k e)) ∙ f)
       go false e true f ih = simp (e, ih)
@@ -74,7 +65,7 @@ unfolding findIn
 find-append k [] b = refl
 find-append k (r ∷ a) b = go (eqb (r .key) k) (find-append k a b)
   where
-    go : (t : Bool) → findIn k (a ++ b) ≡ orElse (findIn k a) (findIn k b) → pick t (At (r .entry)) (findIn k (a ++ b)) ≡ orElse (pick t (At (r .entry)) (findIn k a)) (findIn k b)
+    go : (t : Bool) → findIn k (a ++ b) ≡ orElse (findIn k a) (findIn k b) → pick t (At (entryOf r)) (findIn k (a ++ b)) ≡ orElse (pick t (At (entryOf r)) (findIn k a)) (findIn k b)
     go true ih = refl
     go false ih = ih
 
@@ -85,11 +76,15 @@ or-nothing Nothing = refl
 not-below-itself : (k : ℕ) (r : Row) → r .key ≡ k → ltb (r .key) k ≡ false
 not-below-itself k r e = le-ltb (r .key) k (omega arith)
 
-pub find-inserted : (r : Row) (rs : List Row) → findIn (r .key) (inserted r rs) ≡ At (r .entry)
+pub find-inserted : (r : Row) (rs : List Row) → findIn (r .key) (inserted r rs) ≡ At (entryOf r)
 unfolding findIn
 find-inserted r rs =
     find-append (r .key) (kept (KeepBelow (r .key)) rs) (r ∷ kept (KeepAbove (r .key)) rs)
     ∙ simp (find-dropped (r .key) (keepsRow (KeepBelow (r .key))) (not-below-itself (r .key)) rs, eq-eqb (r .key) (r .key) refl)
+
+-- an entry that is inserted is found
+pub find-entered : (k : ℕ) (e : Entry) (rs : List Row) → findIn k (inserted (rowOf k e) rs) ≡ At e
+find-entered k e rs = find-inserted (rowOf k e) rs ∙ ap At (entry-back k e)
 
 module _ (k : ℕ) (r : Row) (n : k ≡ r .key → ⊥) (rs : List Row) where
   after-row : findIn k (r ∷ kept (KeepAbove (r .key)) rs) ≡ findIn k (kept (KeepAbove (r .key)) rs)
@@ -146,11 +141,6 @@ ascending-such p (ascending-more {r} {rs} b a) = go (p r) (ascending-such p a)
     go true ih = ascending-more (below-such p b) ih
     go false ih = ih
 
-below-take : {k : ℕ} (n : ℕ) {rs : List Row} → Below k rs → Below k (take n rs)
-below-take zero b = below-none
-below-take (suc n) below-none = below-none
-below-take (suc n) (below-more l b) = below-more l (below-take n b)
-
 below-append : {k : ℕ} {a b : List Row} → Below k a → Below k b → Below k (a ++ b)
 below-append below-none q = q
 below-append (below-more l p) q = below-more l (below-append p q)
@@ -189,11 +179,6 @@ ascending-inserted r (ascending-more {r = x} {rs} b a) = go (ltb (x .key) (r .ke
         let l = ltb-false (x .key) (r .key) e in
         rw (none-below (below-less l b))
         (ascending-more (above-are (r .key) (x ∷ rs)) (ascending-such (keepsRow (KeepAbove (r .key))) (ascending-more b a)))
-
-pub ascending-take : (n : ℕ) {rs : List Row} → Ascending rs → Ascending (take n rs)
-ascending-take zero a = ascending-none
-ascending-take (suc n) ascending-none = ascending-none
-ascending-take (suc n) (ascending-more b a) = ascending-more (below-take n b) (ascending-take n a)
 
 -- ---- the 65th row
 pub crowded-is : (k : ℕ) (rs : List Row) → length rs ≤ 64 → crowded k rs ≡ true → (length rs ≡ 64) × (findIn k rs ≡ Nothing)

@@ -1,3 +1,7 @@
-pub mod Fill
+pub mod Words
 pub mod Lists
+pub mod Moves
+pub mod Tables
+pub mod EntryRows
+pub mod Inserts
 pub mod Laws

@@ -1,52 +1,45 @@
 -- A table as the list of its rows in use, and what is done to the list (RULES.md, section 10.1).
+-- how many rows a table has room for
 use Prim.Native.Nat.{ℕ, _-_}
-use mathlib.Core.Bool.{Bool, true}
-use mathlib.Core.List.{List, [], _∷_, _++_}
-use lib.ListN.{length, take, replicate}
+use mathlib.Core.Bool.{Bool, true, false}
+use mathlib.Core.List.{List, [], _∷_, _++_, map}
+use lib.ListN.{length, replicate}
 use lib.Dec.{eqb, ltb, leb}
 use Rattle.prelude.specs.Choice.{pick, no}
 use Rattle.rows.specs.declared.Entry.{Entry}
-use Rattle.rows.specs.declared.Entry.the-variants.{Dialed, Window, Path, Free}
+use Rattle.rows.specs.declared.Entry.the-variants.{Dialed, Window, Path, Other as OtherEntry}
 use Rattle.rows.specs.declared.Row.{Row}
-use Rattle.rows.specs.declared.Table.{Table}
 use Rattle.rows.specs.declared.Found.{Found}
 use Rattle.rows.specs.declared.Found.the-variants.{At, Nothing}
 use Rattle.rows.specs.declared.Keep.{Keep}
 use Rattle.rows.specs.declared.Keep.the-variants.{Below, Above, Other, Lasting}
+use Rattle.rows.specs.declared.Marks.{Marks}
+use Rattle.rows.specs.Kinds.{entryOf}
 
--- the rows in use: the first `count`, and of a count past 64 all
-abbrev pub rowsOf : Table → List Row
-rowsOf t = take (t .count) (t .rows)
+abbrev pub capacity : ℕ
+capacity = 64
 
--- what stands behind the rows in use
-abbrev pub free : Row
-free = record { key = 0; entry = Free }
-
--- 64 places: the values, and z behind them
+-- as many places: the values, and z behind them
 unfoldable pub padded : {A : Type 0} → A → List A → List A
-padded z xs = xs ++ replicate (64 - length xs) z
-
--- the table of a list of rows: the first 64 of them
-unfoldable pub tableOf : List Row → Table
-tableOf rs = record { rows = padded free (take 64 rs); count = length (take 64 rs) }
+padded z xs = xs ++ replicate (capacity - length xs) z
 
 -- what the first row with the key says
 unfoldable pub findIn : ℕ → List Row → Found
 findIn k [] = Nothing
-findIn k (r ∷ rs) = pick (eqb (r .key) k) (At (r .entry)) (findIn k rs)
+findIn k (r ∷ rs) = pick (eqb (r .key) k) (At (entryOf r)) (findIn k rs)
 
 -- a window that has not ended at the reading; any other entry
 abbrev pub lasts : ℕ → Entry → Bool
 lasts now (Window until) = ltb now until
 lasts now (Dialed d) = true
 lasts now (Path a) = true
-lasts now Free = true
+lasts now OtherEntry = true
 
 abbrev pub keepsRow : Keep → Row → Bool
 keepsRow (Below k) r = ltb (r .key) k
 keepsRow (Above k) r = ltb k (r .key)
 keepsRow (Other k) r = no (eqb (r .key) k)
-keepsRow (Lasting now) r = lasts now (r .entry)
+keepsRow (Lasting now) r = lasts now (entryOf r)
 
 -- those for which the test holds, in order
 unfoldable pub such : {A : Type 0} → (A → Bool) → List A → List A
@@ -56,14 +49,27 @@ such p (x ∷ xs) = pick (p x) (x ∷ such p xs) (such p xs)
 abbrev pub kept : Keep → List Row → List Row
 kept keep = such (keepsRow keep)
 
+-- those that are marked, in order
+unfoldable pub marked : {A : Type 0} → List Bool → List A → List A
+marked [] xs = []
+marked (m ∷ ms) [] = []
+marked (m ∷ ms) (x ∷ xs) = pick m (x ∷ marked ms xs) (marked ms xs)
+
+-- a mark for each row in use
+unfoldable pub marksBy : (Row → Bool) → List Row → Marks
+marksBy p rs = record { keep = padded false (map p rs) }
+
 -- the rows of other keys
 abbrev pub without : ℕ → List Row → List Row
 without k = kept (Other k)
+
+abbrev pub notBelow : ℕ → Row → Bool
+notBelow k r = no (ltb (r .key) k)
 
 -- the row between those of smaller and those of larger keys; one of its own key gives way
 abbrev pub inserted : Row → List Row → List Row
 inserted r rs = kept (Below (r .key)) rs ++ (r ∷ kept (Above (r .key)) rs)
 
--- a row for the key would be the 65th
+-- a row for the key would be one too many
 abbrev pub crowded : ℕ → List Row → Bool
-crowded k rs = leb 64 (length (without k rs))
+crowded k rs = leb capacity (length (without k rs))

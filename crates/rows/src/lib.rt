@@ -1,29 +1,80 @@
-// A table of at most 64 rows, each with a number as its key. The ledger has three.
+// The path ledger's three tables, as words that the host lends. A table is the count of its rows in use, and behind it 64 places of five
+// words each, the rows in use first. Any words are a ledger: a count past 64 counts as 64. No other crate knows how rows lie.
 ghost use mathlib.Core.Path.{_≡_};
 ghost use mathlib.Core.List.{_++_, _∷_, []};
-ghost use Prim.Native.Nat.{_≤_};
-ghost use lib.ListN.{length};
-ghost use Rattle.rows.specs.Rows.{free, rowsOf, tableOf, kept, keepsRow, findIn, without, inserted, crowded};
+ghost use Prim.Native.Nat.{ℕ, _≤_, _<_, _+_, _-_};
+ghost use lib.ListN.{length, set, getD, take, drop, replicate};
+ghost use Rattle.prelude.specs.Choice.{pick, no};
+ghost use Rattle.rows.specs.Rows.{keepsRow, kept, findIn, without, inserted, crowded, marked, marksBy, notBelow};
+ghost use Rattle.rows.specs.declared.Entry.{Entry};
+ghost use Rattle.rows.specs.declared.Keep.the-variants.{Below};
+ghost use Rattle.rows.specs.Kinds.{entryOf, rowOf, keyed, dialNumbers, ownedNumbers, pathNumbers, dialed as dialedEntry, owned as ownedEntry};
+ghost use Rattle.rows.specs.Words.{at, noRow, startOf, placesOf, rowsFrom, rowsOf, tabled, filled, brought, divided, countWord, laidFrom, laid, entered};
+use ids::ConnectId;
+use ids::NatToken;
+use ids::PeerId;
 use path::Attribution;
 use path::Dial;
+use path::DialPurpose;
+use path::Owner;
+use path::Path;
+
+// How many rows a table has room for.
+pub const ROWS: usize = 64;
+
+// The count, and five words for each row.
+const TABLE_WORDS: usize = 1 + 5 * ROWS;
+
+pub type Ledger = [u64; 3 * TABLE_WORDS];
+
+// In the order in which they stand.
+pub enum Table {
+    // Started dials, by connection.
+    Dials,
+    // Peers whose next direct connections are punches, until a deadline.
+    Windows,
+    // The attribution of each connection.
+    Paths,
+}
+
+// A row's five words.
+pub struct Row {
+    pub key: u64,
+    pub kind: u64,
+    pub a: u64,
+    pub b: u64,
+    pub c: u64,
+}
+
+// The kinds of rows, and of a path's owner.
+const RELAY: u64 = 1;
+
+const PUNCH: u64 = 2;
+
+const PROBE: u64 = 3;
+
+const RESERVE: u64 = 4;
+
+const WINDOW: u64 = 5;
+
+const RELAYED: u64 = 6;
+
+const PUNCHED: u64 = 7;
+
+const DIRECT: u64 = 8;
+
+const UNOWNED: u64 = 0;
+
+const INBOUND: u64 = 1;
+
+const ATTEMPT: u64 = 2;
 
 // What a row says of its key: a dial or a path of a connection, or the end of a peer's punch window.
 pub enum Entry {
-    Free,
+    Other,
     Dialed(Dial),
     Window(u64),
     Path(Attribution),
-}
-
-pub struct Row {
-    pub key: u64,
-    pub entry: Entry,
-}
-
-// The rows in use are the first `count`.
-pub struct Table {
-    pub rows: [Row; 64],
-    pub count: u64,
 }
 
 pub enum Found {
@@ -39,34 +90,205 @@ pub enum Keep {
     Lasting(u64),
 }
 
-fn free_row() -> Row
-    ensures { λ r. ⌜ r ≡ free ⌝ }
+// For each place whether its row is kept.
+pub struct Marks {
+    pub keep: [bool; ROWS],
+}
+
+// ---- rows and entries
+
+fn no_row() -> Row
+    ensures { λ r. ⌜ r ≡ noRow ⌝ }
 {
     Row {
         key: 0,
-        entry: Entry::Free,
+        kind: 0,
+        a: 0,
+        b: 0,
+        c: 0,
     }
 }
 
-pub fn empty() -> Table
-    ensures { λ r. ⌜ r ≡ tableOf [] ⌝ }
+fn owned(path: Path, kind: u64, id: u64) -> Entry
+    ensures { λ r. ⌜ r ≡ ownedEntry path kind id ⌝ }
 {
-    let none = free_row();
-    Table {
-        rows: [none; 64],
-        count: 0,
+    if kind == UNOWNED {
+        return Entry::Path(Attribution {
+            path,
+            owner: Owner::None,
+        });
+    }
+    if kind == INBOUND {
+        return Entry::Path(Attribution {
+            path,
+            owner: Owner::Inbound,
+        });
+    }
+    if kind == ATTEMPT {
+        return Entry::Path(Attribution {
+            path,
+            owner: Owner::Attempt(ConnectId(id)),
+        });
+    }
+    Entry::Other
+}
+
+fn dialed(token: u64, purpose: DialPurpose) -> Entry
+    ensures { λ r. ⌜ r ≡ dialedEntry token purpose ⌝ }
+{
+    Entry::Dialed(Dial {
+        token: NatToken(token),
+        purpose,
+    })
+}
+
+// What a row says.
+pub fn entry_of(row: Row) -> Entry
+    ensures { λ r. ⌜ r ≡ entryOf row ⌝ }
+{
+    let kind = row.kind;
+    if kind == RELAY {
+        return dialed(row.a, DialPurpose::Relay(ConnectId(row.b), PeerId(row.c)));
+    }
+    if kind == PUNCH {
+        return dialed(row.a, DialPurpose::Punch(ConnectId(row.b)));
+    }
+    if kind == PROBE {
+        return dialed(row.a, DialPurpose::Probe(PeerId(row.b)));
+    }
+    if kind == RESERVE {
+        return dialed(row.a, DialPurpose::Reserve(PeerId(row.b)));
+    }
+    if kind == WINDOW {
+        return Entry::Window(row.a);
+    }
+    if kind == RELAYED {
+        return owned(
+            Path::Relayed {
+                relay: PeerId(row.a),
+            },
+            row.b,
+            row.c,
+        );
+    }
+    if kind == PUNCHED {
+        return owned(Path::Punched, row.b, row.c);
+    }
+    if kind == DIRECT {
+        return owned(Path::Direct, row.b, row.c);
+    }
+    Entry::Other
+}
+
+fn dial_row(key: u64, token: u64, purpose: DialPurpose) -> Row
+    ensures { λ r. ⌜ r ≡ keyed key (dialNumbers token purpose) ⌝ }
+{
+    match purpose {
+        DialPurpose::Relay(attempt, relay) => Row {
+            key,
+            kind: RELAY,
+            a: token,
+            b: attempt.0,
+            c: relay.0,
+        },
+        DialPurpose::Punch(attempt) => Row {
+            key,
+            kind: PUNCH,
+            a: token,
+            b: attempt.0,
+            c: 0,
+        },
+        DialPurpose::Probe(peer) => Row {
+            key,
+            kind: PROBE,
+            a: token,
+            b: peer.0,
+            c: 0,
+        },
+        DialPurpose::Reserve(peer) => Row {
+            key,
+            kind: RESERVE,
+            a: token,
+            b: peer.0,
+            c: 0,
+        },
     }
 }
 
-// How many rows are in use.
-pub fn used(table: Table) -> usize
-    ensures { λ r. ⌜ (r ≡ length (rowsOf table)) × (r ≤ 64) ⌝ }
+fn owned_row(key: u64, kind: u64, relay: u64, owner: Owner) -> Row
+    ensures { λ r. ⌜ r ≡ keyed key (ownedNumbers kind relay owner) ⌝ }
 {
-    if table.count < 64 {
-        return table.count as usize;
+    match owner {
+        Owner::None => Row {
+            key,
+            kind,
+            a: relay,
+            b: UNOWNED,
+            c: 0,
+        },
+        Owner::Inbound => Row {
+            key,
+            kind,
+            a: relay,
+            b: INBOUND,
+            c: 0,
+        },
+        Owner::Attempt(id) => Row {
+            key,
+            kind,
+            a: relay,
+            b: ATTEMPT,
+            c: id.0,
+        },
     }
-    64
 }
+
+fn path_row(key: u64, path: Path, owner: Owner) -> Row
+    ensures { λ r. ⌜ r ≡ keyed key (pathNumbers path owner) ⌝ }
+{
+    match path {
+        Path::Relayed { relay } => owned_row(key, RELAYED, relay.0, owner),
+        Path::Punched => owned_row(key, PUNCHED, 0, owner),
+        Path::Direct => owned_row(key, DIRECT, 0, owner),
+    }
+}
+
+// The row that says the entry of the key.
+pub fn row_of(key: u64, entry: Entry) -> Row
+    ensures { λ r. ⌜ r ≡ rowOf key entry ⌝ }
+{
+    match entry {
+        Entry::Dialed(dial) => {
+            let token = dial.token;
+            let purpose = dial.purpose;
+            dial_row(key, token.0, purpose)
+        }
+        Entry::Window(until) => Row {
+            key,
+            kind: WINDOW,
+            a: until,
+            b: 0,
+            c: 0,
+        },
+        Entry::Path(name) => {
+            let path = name.path;
+            let owner = name.owner;
+            path_row(key, path, owner)
+        }
+        Entry::Other => Row {
+            key,
+            kind: 0,
+            a: 0,
+            b: 0,
+            c: 0,
+        },
+    }
+}
+
+// A row that says an entry is read as that entry.
+pub fn read_back()
+    ensures { λ r. ⌜ ((key : ℕ) (entry : Entry) → entryOf (rowOf key entry) ≡ entry) ⌝ }
+{}
 
 fn keeps(keep: Keep, row: Row) -> bool
     ensures { λ r. ⌜ r ≡ keepsRow keep row ⌝ }
@@ -77,108 +299,310 @@ fn keeps(keep: Keep, row: Row) -> bool
         Keep::Above(k) => k < key,
         Keep::Other(k) => key != k,
         Keep::Lasting(now) => {
-            let entry = row.entry;
-            match entry {
-                Entry::Window(until) => now < until,
-                Entry::Free => true,
-                Entry::Dialed(_) => true,
-                Entry::Path(_) => true,
+            if row.kind == WINDOW {
+                return now < row.a;
             }
+            true
         }
     }
 }
 
-// What the first row with the key says.
-pub fn find(table: Table, key: u64) -> Found
-    ensures { λ r. ⌜ r ≡ findIn key (rowsOf table) ⌝ }
+// ---- words
+
+fn size(s: &[u64]) -> usize
+    ensures { λ r. ⌜ r ≡ length (now (s .entry)) ⌝ }
 {
-    let n = used(table);
+    s.len()
+}
+
+// A ledger has 963 words: a fact for the proofs.
+pub fn known(l: &Ledger)
+    ensures { λ r. ⌜ length (now (l .entry)) ≡ 963 ⌝ }
+{
+    size(l);
+}
+
+fn start_of(table: Table) -> usize
+    ensures { λ r. ⌜ (r ≡ startOf table) × (r ≤ 642) ⌝ }
+{
+    match table {
+        Table::Dials => 0,
+        Table::Windows => TABLE_WORDS,
+        Table::Paths => 2 * TABLE_WORDS,
+    }
+}
+
+fn count(l: &Ledger, b: usize) -> usize
+    requires { ⌜ b ≤ 642 ⌝ }
+    ensures { λ r. ⌜ (r ≡ length (rowsFrom b (now (l .entry)))) × (r ≤ 64) ⌝ }
+{
+    let n = l[b];
+    if n < ROWS as u64 {
+        return n as usize;
+    }
+    ROWS
+}
+
+fn key_at(l: &Ledger, b: usize, i: usize) -> u64
+    requires { ⌜ (b ≤ 642) × (i < 64) ⌝ }
+    ensures { λ r. ⌜ r ≡ getD (placesOf b (now (l .entry))) i noRow .key ⌝ }
+{
+    l[b + 1 + 5 * i]
+}
+
+fn read(l: &Ledger, b: usize, i: usize) -> Row
+    requires { ⌜ (b ≤ 642) × (i < 64) ⌝ }
+    ensures { λ r. ⌜ r ≡ getD (placesOf b (now (l .entry))) i noRow ⌝ }
+{
+    let p = b + 1 + 5 * i;
+    Row {
+        key: l[p],
+        kind: l[p + 1],
+        a: l[p + 2],
+        b: l[p + 3],
+        c: l[p + 4],
+    }
+}
+
+fn write(l: &mut Ledger, b: usize, i: usize, row: Row)
+    requires { ⌜ (b ≤ 642) × (i < 64) ⌝ }
+    ensures { λ r. ⌜ now (l .exit) ≡ tabled b (at (now (l .entry)) b) (set (placesOf b (now (l .entry))) i row) (now (l .entry)) ⌝ }
+{
+    known(l);
+    let p = b + 1 + 5 * i;
+    l[p] = row.key;
+    l[p + 1] = row.kind;
+    l[p + 2] = row.a;
+    l[p + 3] = row.b;
+    l[p + 4] = row.c;
+}
+
+// The row at k comes to i; those from i on, up to it, move one up.
+fn bring(l: &mut Ledger, b: usize, i: usize, k: usize)
+    requires { ⌜ (b ≤ 642) × (i ≤ k) × (k < 64) ⌝ }
+    ensures { λ r. ⌜ now (l .exit) ≡ tabled b (at (now (l .entry)) b) (brought (placesOf b (now (l .entry))) i k) (now (l .entry)) ⌝ }
+{
+    known(l);
+    let row = read(l, b, k);
+    let mut j = k;
+    while i < j {
+        j -= 1;
+        let lower = read(l, b, j);
+        write(l, b, j + 1, lower);
+    }
+    write(l, b, i, row);
+}
+
+// Of the first n places, the rows below the key come first. Answers how many they are.
+fn divide(l: &mut Ledger, b: usize, n: usize, key: u64) -> usize
+    requires { ⌜ (b ≤ 642) × (n < 64) ⌝ }
+    ensures count { λ r. ⌜ (r ≡ length (kept (Below key) (take n (placesOf b (now (l .entry)))))) × (r ≤ n) ⌝ }
+    ensures words { λ r. ⌜ now (l .exit) ≡ tabled b (at (now (l .entry)) b) (divided key n (placesOf b (now (l .entry)))) (now (l .entry)) ⌝ }
+{
+    known(l);
+    let mut m: usize = 0;
     let mut i: usize = 0;
     while i < n {
-        let row = table.rows[i];
-        if row.key == key {
-            let entry = row.entry;
-            return Found::At(entry);
+        let from = i;
+        i += 1;
+        if key_at(l, b, from) < key {
+            let to = m;
+            m += 1;
+            if to < from {
+                bring(l, b, to, from);
+            }
+        }
+    }
+    m
+}
+
+// The marked rows move to the front. Answers how many they are.
+fn pack(l: &mut Ledger, b: usize, marks: Marks) -> usize
+    requires { ⌜ b ≤ 642 ⌝ }
+    ensures count { λ r. ⌜ (r ≡ length (marked (marks .keep) (rowsFrom b (now (l .entry))))) × (r ≤ length (rowsFrom b (now (l .entry)))) ⌝ }
+    ensures words { λ r. ⌜ now (l .exit) ≡ tabled b (at (now (l .entry)) b) (filled (marked (marks .keep) (rowsFrom b (now (l .entry)))) (placesOf b (now (l .entry)))) (now (l .entry)) ⌝ }
+{
+    known(l);
+    let n = count(l, b);
+    let mut m: usize = 0;
+    let mut i: usize = 0;
+    while i < n {
+        let from = i;
+        i += 1;
+        if marks.keep[from] {
+            let to = m;
+            m += 1;
+            if to < from {
+                let row = read(l, b, from);
+                write(l, b, to, row);
+            }
+        }
+    }
+    m
+}
+
+// Zeros in the places from m on, up to n, and the count m where it was n.
+fn settle(l: &mut Ledger, b: usize, n: usize, m: usize)
+    requires { ⌜ (b ≤ 642) × (n ≤ 64) × (m ≤ 64) ⌝ }
+    ensures { λ r. ⌜ now (l .exit) ≡ tabled b (countWord (at (now (l .entry)) b) n m) (take m (placesOf b (now (l .entry))) ++ (replicate (n - m) noRow ++ drop (m + (n - m)) (placesOf b (now (l .entry))))) (now (l .entry)) ⌝ }
+{
+    known(l);
+    let none = no_row();
+    let mut i = m;
+    while i < n {
+        write(l, b, i, none);
+        i += 1;
+    }
+    if n != m {
+        l[b] = m as u64;
+    }
+}
+
+// ---- the calls, over a table that begins at b
+
+fn find_from(l: &Ledger, b: usize, key: u64) -> Found
+    requires { ⌜ b ≤ 642 ⌝ }
+    ensures { λ r. ⌜ r ≡ findIn key (rowsFrom b (now (l .entry))) ⌝ }
+{
+    let n = count(l, b);
+    let mut i: usize = 0;
+    while i < n {
+        if key_at(l, b, i) == key {
+            return Found::At(entry_of(read(l, b, i)));
         }
         i += 1;
     }
     Found::Nothing
 }
 
-// Whether a row for the key would be the 65th.
-pub fn is_crowded(table: Table, key: u64) -> bool
-    ensures { λ r. ⌜ r ≡ crowded key (rowsOf table) ⌝ }
+fn is_crowded_from(l: &Ledger, b: usize, key: u64) -> bool
+    requires { ⌜ b ≤ 642 ⌝ }
+    ensures { λ r. ⌜ r ≡ crowded key (rowsFrom b (now (l .entry))) ⌝ }
 {
-    if used(table) < 64 {
+    if count(l, b) < ROWS {
         return false;
     }
-    let found = find(table, key);
+    let found = find_from(l, b, key);
     match found {
         Found::At(_) => false,
         Found::Nothing => true,
     }
 }
 
-// The rows of `out`, and behind them those of `table` that are kept.
-fn append(out: Table, table: Table, keep: Keep) -> Table
-    requires { ⌜ out ≡ tableOf (rowsOf out) ⌝ }
-    ensures { λ r. ⌜ r ≡ tableOf (rowsOf out ++ kept keep (rowsOf table)) ⌝ }
+fn marks_from(l: &Ledger, b: usize, keep: Keep) -> Marks
+    requires { ⌜ b ≤ 642 ⌝ }
+    ensures { λ r. ⌜ r ≡ marksBy (keepsRow keep) (rowsFrom b (now (l .entry))) ⌝ }
 {
-    let n = used(table);
-    let mut m = used(out);
-    let mut rows = out.rows;
+    let n = count(l, b);
+    let mut marks = Marks {
+        keep: [false; ROWS],
+    };
     let mut i: usize = 0;
     while i < n {
-        let row = table.rows[i];
+        marks.keep[i] = keeps(keep, read(l, b, i));
         i += 1;
-        if keeps(keep, row) {
-            if m < 64 {
-                rows[m] = row;
-                m += 1;
-            }
-        }
     }
-    Table {
-        rows,
-        count: m as u64,
-    }
+    marks
 }
 
-fn push(table: Table, row: Row) -> Table
-    requires { ⌜ table ≡ tableOf (rowsOf table) ⌝ }
-    ensures { λ r. ⌜ r ≡ tableOf (rowsOf table ++ (row ∷ [])) ⌝ }
+fn retain_from(l: &mut Ledger, b: usize, marks: Marks)
+    requires { ⌜ b ≤ 642 ⌝ }
+    ensures { λ r. ⌜ now (l .exit) ≡ laidFrom b (marked (marks .keep) (rowsFrom b (now (l .entry)))) (now (l .entry)) ⌝ }
 {
-    let n = used(table);
-    if n < 64 {
-        let mut rows = table.rows;
-        rows[n] = row;
-        return Table {
-            rows,
-            count: (n + 1) as u64,
-        };
+    known(l);
+    let n = count(l, b);
+    let m = pack(l, b, marks);
+    settle(l, b, n, m);
+}
+
+// The rows of the row's key go; the others are divided at it, and it comes between them.
+fn insert_from(l: &mut Ledger, b: usize, row: Row) -> bool
+    requires { ⌜ b ≤ 642 ⌝ }
+    ensures answer { λ r. ⌜ r ≡ no (crowded (row .key) (rowsFrom b (now (l .entry)))) ⌝ }
+    ensures words { λ r. ⌜ now (l .exit) ≡ laidFrom b (entered row (rowsFrom b (now (l .entry)))) (now (l .entry)) ⌝ }
+{
+    known(l);
+    if is_crowded_from(l, b, row.key) {
+        return false;
     }
-    table
+    let used = count(l, b);
+    let marks = marks_from(l, b, Keep::Other(row.key));
+    let n = pack(l, b, marks);
+    let m = divide(l, b, n, row.key);
+    write(l, b, n, row);
+    bring(l, b, m, n);
+    settle(l, b, used, n + 1);
+    true
+}
+
+// ---- the calls
+
+// No row in use, and zeros.
+pub fn empty() -> Ledger
+    ensures { λ r. ⌜ r ≡ replicate 963 0 ⌝ }
+{
+    [0u64; 3 * TABLE_WORDS]
+}
+
+// How many rows are in use.
+pub fn used(l: &Ledger, table: Table) -> usize
+    ensures { λ r. ⌜ (r ≡ length (rowsOf table (now (l .entry)))) × (r ≤ 64) ⌝ }
+{
+    count(l, start_of(table))
+}
+
+// The row in use at a place of the order.
+pub fn row_at(l: &Ledger, table: Table, i: usize) -> Row
+    ensures { λ r. ⌜ r ≡ getD (rowsOf table (now (l .entry))) i noRow ⌝ }
+{
+    let b = start_of(table);
+    if i < count(l, b) {
+        return read(l, b, i);
+    }
+    no_row()
+}
+
+// What the first row with the key says.
+pub fn find(l: &Ledger, table: Table, key: u64) -> Found
+    ensures { λ r. ⌜ r ≡ findIn key (rowsOf table (now (l .entry))) ⌝ }
+{
+    find_from(l, start_of(table), key)
+}
+
+// Whether a row for the key would be the 65th.
+pub fn is_crowded(l: &Ledger, table: Table, key: u64) -> bool
+    ensures { λ r. ⌜ r ≡ crowded key (rowsOf table (now (l .entry))) ⌝ }
+{
+    is_crowded_from(l, start_of(table), key)
+}
+
+// The row in its place; one of its own key gives way. False, and no change, where it would be the 65th.
+pub fn insert(l: &mut Ledger, table: Table, row: Row) -> bool
+    ensures answer { λ r. ⌜ r ≡ no (crowded (row .key) (rowsOf table (now (l .entry)))) ⌝ }
+    ensures words { λ r. ⌜ now (l .exit) ≡ laid table (entered row (rowsOf table (now (l .entry)))) (now (l .entry)) ⌝ }
+{
+    insert_from(l, start_of(table), row)
 }
 
 // The rows that are kept.
-pub fn retain(table: Table, keep: Keep) -> Table
-    ensures { λ r. ⌜ r ≡ tableOf (kept keep (rowsOf table)) ⌝ }
+pub fn retain(l: &mut Ledger, table: Table, keep: Keep)
+    ensures { λ r. ⌜ now (l .exit) ≡ laid table (kept keep (rowsOf table (now (l .entry)))) (now (l .entry)) ⌝ }
 {
-    append(empty(), table, keep)
+    let b = start_of(table);
+    let marks = marks_from(l, b, keep);
+    retain_from(l, b, marks);
+}
+
+// The rows that are marked.
+pub fn retain_marked(l: &mut Ledger, table: Table, marks: Marks)
+    ensures { λ r. ⌜ now (l .exit) ≡ laid table (marked (marks .keep) (rowsOf table (now (l .entry)))) (now (l .entry)) ⌝ }
+{
+    retain_from(l, start_of(table), marks);
 }
 
 // The rows of other keys.
-pub fn remove(table: Table, key: u64) -> Table
-    ensures { λ r. ⌜ r ≡ tableOf (without key (rowsOf table)) ⌝ }
+pub fn remove(l: &mut Ledger, table: Table, key: u64)
+    ensures { λ r. ⌜ now (l .exit) ≡ laid table (without key (rowsOf table (now (l .entry)))) (now (l .entry)) ⌝ }
 {
-    retain(table, Keep::Other(key))
-}
-
-// The row in its place; one of its own key gives way.
-pub fn insert(table: Table, row: Row) -> Table
-    ensures { λ r. ⌜ r ≡ tableOf (inserted row (rowsOf table)) ⌝ }
-{
-    let key = row.key;
-    let low = retain(table, Keep::Below(key));
-    append(push(low, row), table, Keep::Above(key))
+    retain(l, table, Keep::Other(key));
 }

@@ -6,19 +6,19 @@ use mathlib.Core.List.{List, [], _∷_}
 use Prim.Native.Nat.{ℕ}
 use Rattle.ids.specs.declared.PeerId.{PeerId}
 use Rattle.ids.specs.declared.ConnectionId.{ConnectionId}
-use Rattle.inbound.specs.declared.InboundCircuit.{InboundCircuit}
-use Rattle.inbound.specs.declared.Settings.{Settings}
+use Rattle.inbound.specs.declared.circuit.InboundCircuit.{InboundCircuit}
+use Rattle.vocabulary.specs.declared.Settings.{Settings}
 use Rattle.history.specs.Demand3.{begun}
 use Rattle.history.specs.Calls.{stepOf, datagrams, refusals}
-use Rattle.history.proofs.Run as run
-use Rattle.history.proofs.Bound as count
 use Rattle.history.proofs.Refusals.{refused-changes-nothing}
 use Rattle.thin.specs.Mixed.{Mixed, byValue, thinTick, thinWrote, made, madeAll, leaves, sent, refused, left, leftBy, AsMade, Unchanged, Demand3Mixed}
+use Rattle.history.proofs.Run as run
+use Rattle.history.proofs.Bound as count
 
 one : (c : InboundCircuit) (m : Mixed) → leaves c m ≡ stepOf c (made m)
 unfolding leaves stepOf
 one c (byValue k) = refl
-one c (thinTick l h) = refl
+one c (thinTick l h own) = refl
 one c (thinWrote at conn stream) = refl
 
 pub as-made : (calls : List Mixed) (c : InboundCircuit) → AsMade c calls

@@ -1,31 +1,31 @@
 -- Lists of calls among which some are thin (RULES.md, section 11.11).
 use mathlib.Core.Path.{_≡_}
 use Prim.Native.Nat.{ℕ, _≤_}
-use mathlib.Core.Bool.{Bool, false}
+use mathlib.Core.Bool.{Bool}
 use mathlib.Core.List.{List, [], _∷_, _++_}
 use lib.ListN.{length}
 use Rattle.ids.specs.declared.ConnectionId.{ConnectionId}
 use Rattle.ids.specs.declared.StreamId.{StreamId}
 use Rattle.ids.specs.declared.PeerId.{PeerId}
-use Rattle.ledger.specs.declared.PathLedger.{PathLedger}
-use Rattle.inbound.specs.declared.InboundCircuit.{InboundCircuit}
-use Rattle.inbound.specs.declared.Settings.{Settings}
-use Rattle.inbound.specs.declared.Host.{Host}
-use Rattle.inbound.specs.declared.Answer.{Answer}
-use Rattle.inbound.specs.Circuit.{tickOf, wroteOf}
+use Rattle.ledger.specs.Ledger.{PathLedger}
+use Rattle.vocabulary.specs.declared.Settings.{Settings}
+use Rattle.vocabulary.specs.declared.Host.{Host}
+use Rattle.inbound.specs.declared.circuit.InboundCircuit.{InboundCircuit}
+use Rattle.inbound.specs.declared.circuit.Answer.{Answer}
+use Rattle.inbound.specs.Circuits.{tickAnswer, wroteAnswer}
 use Rattle.history.specs.Calls.{Call, tick, wrote, Datagram, Step, answered, stepOf, datagrams, refusals}
 use Rattle.history.specs.Demand3.{due, most, begun, windowsOf}
 
 -- a call by value, or a thin call
 pub data Mixed : Type 0 where
   byValue : Call → Mixed
-  thinTick : PathLedger → Host → Mixed
+  thinTick : PathLedger → Host → (own : List ℕ) → Mixed
   thinWrote : (at : ℕ) → ConnectionId → StreamId → Mixed
 
 -- the call that it makes
 abbrev pub made : Mixed → Call
 made (byValue k) = k
-made (thinTick l h) = tick l h
+made (thinTick l h own) = tick l h own
 made (thinWrote at conn stream) = wrote at conn stream
 
 unfoldable pub madeAll : List Mixed → List Call
@@ -39,8 +39,8 @@ lent a c = record { circuit = c; sent = answered a .sent; refused = answered a .
 -- what a call leaves; a thin one as its contract says
 unfoldable pub leaves : InboundCircuit → Mixed → Step
 leaves c (byValue k) = stepOf c k
-leaves c (thinTick l h) = lent (tickOf c l h) (tickOf c l h .circuit)
-leaves c (thinWrote at conn stream) = record { circuit = wroteOf c at conn stream; sent = []; refused = false }
+leaves c (thinTick l h own) = lent (tickAnswer c h own) (tickAnswer c h own .circuit)
+leaves c (thinWrote at conn stream) = lent (wroteAnswer c at conn stream) (wroteAnswer c at conn stream .circuit)
 
 -- what the answers send, in order; a call acts on what the one before it left
 unfoldable pub sent : InboundCircuit → List Mixed → List Datagram

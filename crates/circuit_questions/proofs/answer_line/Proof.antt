@@ -1,3 +1,5 @@
+use Rattle.ledger.specs.Ledger.{tablesOf}
+use Rattle.journal_turns.specs.Turns.{whole}
 use denote.Ref.{now}
 use Rattle.circuit_questions.proofs.Answering.{line-answered}
 use borrow.Author.Needs.{needs}
@@ -20,7 +22,10 @@ same-length-2 : tie.Need-same-length-2
 same-length-2 c = search needs
 
 returns : tie.Need-returns
-returns c = line-answered (c .before .before .before .before .before .before .before .before .before .before .before .before .before .before .args .j) (now (c .before .before .before .before .before .before .before .before .before .before .before .before .before .before .args .reply)) (now (c .before .before .before .before .before .before .before .before .before .before .before .before .before .before .args .line)) (c .before .before .before .before .before .before .before .before .before .before .before .before .before .before .args .ended) (now (c .before .before .before .before .before .before .before .before .before .before .before .before .before .before .args .out)) (c .before .before .before .before .before .before .before .before .before .take-line .ensures) (c .before .before .before .before .ask .ensures) (c .before .before .put-answers .ensures)
+returns c =
+    let a = c .before .before .before .before .before .before .before .before .before .before .before .before .before .before .before .before .before .before .args in
+    line-answered (whole (a .j) (now (a .connect)) (now (a .targets)) (tablesOf (now (a .ledger))) (now (a .ledger)) (now (a .sent))) (now (a .reply)) (now (a .line))
+    (a .ended) (now (a .out)) _ (c .before .before .before .before .before .before .before .before .before .take-line .ensures) (c .before .before .before .before .ask .ensures) (c .before .before .put-answers .ensures)
 
 pub answer-line-spec : {M : Type 1} → statement M
 answer-line-spec =

@@ -20,7 +20,7 @@ slice-reshare-prefix-answer-line : tie.Need-slice-reshare-prefix-answer-line
 slice-reshare-prefix-answer-line c = search needs
 
 slice-aggregate-answer-line : tie.Need-slice-aggregate-answer-line
-slice-aggregate-answer-line c = simp length-take (omega (arith, c .before .before .before .before .before .before .before .before .next-line .ensures .0))
+slice-aggregate-answer-line c = simp length-take (omega (arith, c .before .before .before .before .before .before .before .before .before .before .before .before .next-line .ensures .0))
 
 answer-line-requires : tie.Need-answer-line-requires
 answer-line-requires c κs = search needs
@@ -41,7 +41,7 @@ same-length-6 : tie.Need-same-length-6
 same-length-6 c = search needs
 
 returns-2 : tie.Need-returns-2
-returns-2 c = search needs
+returns-2 c = omega (arith, c .before .before .before .before .before .before .before .before .before .before .before .before .before .before .before .before .before .before .before .before .before .before .next-line .ensures .1 .0)
 
 same-length-7 : tie.Need-same-length-7
 same-length-7 c = search needs
@@ -56,7 +56,7 @@ same-length-10 : tie.Need-same-length-10
 same-length-10 c = search needs
 
 returns-3 : tie.Need-returns-3
-returns-3 c = search needs
+returns-3 c = omega (arith, c .before .before .before .before .before .before .before .before .before .before .before .before .before .before .before .before .before .before .before .before .before .before .next-line .ensures .1 .0)
 
 pub answer-next-spec : {M : Type 1} → statement M
 answer-next-spec =

@@ -4,6 +4,9 @@ use borrow.Author.Needs.{needs}
 use Rattle.dials.proofs.fate_at.Statement.{statement}
 use Rattle.dials.proofs.fate_at.Tie as tie
 
+entry-of-requires : tie.Need-entry-of-requires
+entry-of-requires c κs = search needs
+
 is-first-requires : tie.Need-is-first-requires
 is-first-requires c κs = search needs
 
@@ -24,24 +27,25 @@ enum-told-3 c = search needs
 
 returns : tie.Need-returns
 unfolding fateAt
-returns c = simp (sym (c .fate-of .ensures), c .before .before .entry .given .1, sym (c .before .before .before .before .is-first .ensures))
+returns c = simp (sym (c .fate-of .ensures), c .before .before .entry .given .1, sym (c .before .before .before .before .is-first .ensures), sym (c .before .before .before .before .before .entry-of .ensures))
 
 returns-2 : tie.Need-returns-2
 unfolding fateAt
-returns-2 c = simp (c .enum-told .given .1, sym (c .before .before .is-first .ensures))
+returns-2 c = simp (c .enum-told .given .1, sym (c .before .before .is-first .ensures), sym (c .before .before .before .entry-of .ensures))
 
 returns-3 : tie.Need-returns-3
 unfolding fateAt
-returns-3 c = simp (c .enum-told2 .given .1, sym (c .before .before .is-first .ensures))
+returns-3 c = simp (c .enum-told2 .given .1, sym (c .before .before .is-first .ensures), sym (c .before .before .before .entry-of .ensures))
 
 returns-4 : tie.Need-returns-4
 unfolding fateAt
-returns-4 c = simp (c .enum-told3 .given .1, sym (c .before .before .is-first .ensures))
+returns-4 c = simp (c .enum-told3 .given .1, sym (c .before .before .is-first .ensures), sym (c .before .before .before .entry-of .ensures))
 
 pub fate-at-spec : {M : Type 1} → statement M
 fate-at-spec =
     tie.close
     (tie.spec
+    entry-of-requires
     is-first-requires
     enum-known-entry
     fate-of-requires

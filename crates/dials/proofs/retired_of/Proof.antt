@@ -1,19 +1,22 @@
 use Prim.Native.Nat.{_≤_, _-_}
-use mathlib.Core.Path.{_≡_, ap, sym}
+use mathlib.Core.Path.{_≡_, ap, sym, _∙_}
 use native.Mathlib.Omega.{arith}
-use lib.ListN.{length, length-map}
+use lib.ListN.{length, getD, length-map}
+use Rattle.rows.specs.declared.Row.{Row}
+use Rattle.rows.specs.declared.Table.the-variants.{Dials}
+use Rattle.rows.specs.Words.{rowsOf}
 use Rattle.dials.specs.declared.Tokens.{Tokens}
-use Rattle.dials.specs.Dials.{tokensOf, retiredOf}
+use Rattle.dials.specs.Dials.{tokensOf, retiredOf, fateAt, noFirst}
 use Rattle.dials.proofs.Gathered.{Gathered, none-yet, gives, gives-none, all-given, noToken, filled-tokens}
 use borrow.Author.Needs.{needs}
 use Rattle.dials.proofs.retired_of.Statement.{statement}
 use Rattle.dials.proofs.retired_of.Tie as tie
 
 abbrev Inv-loop : tie.InvT-loop
-Inv-loop id dials firsts n tokens₀ m₀ i₀ tokens m i = (i ≤ n) × Gathered noToken (retiredOf id) dials firsts i tokens m
+Inv-loop l id firsts n tokens₀ m₀ i₀ tokens m i = (i ≤ n) × Gathered noToken (retiredOf id) (rowsOf Dials l) firsts i tokens m
 
 abbrev μ-loop : tie.MeasureT-loop
-μ-loop id dials firsts n tokens₀ m₀ i₀ tokens m i = n - i
+μ-loop l id firsts n tokens₀ m₀ i₀ tokens m i = n - i
 
 used-requires : tie.Need-used-requires Inv-loop μ-loop
 used-requires c κs = search needs
@@ -25,17 +28,14 @@ loop-holds : tie.Need-loop-holds Inv-loop μ-loop
 unfolding tokensOf
 loop-holds c = (omega arith, none-yet (ap (λ (t : Tokens). t .tokens) (c .before .no-tokens .ensures)))
 
+row-at-requires : tie.Need-row-at-requires Inv-loop μ-loop
+row-at-requires c κs = search needs
+
 mul-fate-at : tie.Need-mul-fate-at Inv-loop μ-loop
 mul-fate-at c = omega arith
 
 element-copy-out-fate-at : tie.Need-element-copy-out-fate-at Inv-loop μ-loop
 element-copy-out-fate-at c = omega arith
-
-mul-fate-at-2 : tie.Need-mul-fate-at-2 Inv-loop μ-loop
-mul-fate-at-2 c = omega arith
-
-element-copy-out-fate-at-2 : tie.Need-element-copy-out-fate-at-2 Inv-loop μ-loop
-element-copy-out-fate-at-2 c = omega arith
 
 fate-at-requires : tie.Need-fate-at-requires Inv-loop μ-loop
 fate-at-requires c κs = search needs
@@ -52,7 +52,8 @@ loop-less c = omega arith
 loop-again : tie.Need-loop-again Inv-loop μ-loop
 loop-again c =
     let f64 : length (c .before .before .before .before .before .before .before .before .before .before .args .t3 .rows) ≡ 64 = simp length-map at (c .before .before .before .before .before .before .before .before .before .before .good .1 .1 .0 .1 .1 .0 .1 .0 .1) in
-    (omega arith, gives-none (c .before .before .before .before .before .before .loop .inv .1) (omega arith) (omega arith) (simp (sym (c .before .before .fate-at .ensures), c .enum-told .given .1)))
+    let f = sym (c .before .before .fate-at .ensures ∙ ap (λ (r : Row). fateAt (c .before .before .before .before .before .before .before .before .before .before .args .id) r (getD (c .before .before .before .before .before .before .before .before .before .before .args .t3 .rows) (c .before .before .before .before .before .before .loop .i) noFirst)) (c .before .before .before .before .row-at .ensures)) in
+    (omega arith, gives-none (c .before .before .before .before .before .before .loop .inv .1) (omega arith) (omega arith) (simp (f, c .enum-told .given .1)))
 
 enum-known-fate : tie.Need-enum-known-fate Inv-loop μ-loop
 enum-known-fate c = search needs
@@ -72,7 +73,8 @@ loop-less-2 c = omega arith
 loop-again-2 : tie.Need-loop-again-2 Inv-loop μ-loop
 loop-again-2 c =
     let f64 : length (c .before .before .before .before .before .before .before .before .before .before .before .args .t3 .rows) ≡ 64 = simp length-map at (c .before .before .before .before .before .before .before .before .before .before .before .good .1 .1 .0 .1 .1 .0 .1 .0 .1) in
-    (omega arith, gives (c .before .before .before .before .before .before .before .loop .inv .1) (omega arith) (omega arith) (simp (sym (c .before .before .before .fate-at .ensures), c .before .fate .given .1)) (omega arith))
+    let f = sym (c .before .before .before .fate-at .ensures ∙ ap (λ (r : Row). fateAt (c .before .before .before .before .before .before .before .before .before .before .before .args .id) r (getD (c .before .before .before .before .before .before .before .before .before .before .before .args .t3 .rows) (c .before .before .before .before .before .before .before .loop .i) noFirst)) (c .before .before .before .before .before .row-at .ensures)) in
+    (omega arith, gives (c .before .before .before .before .before .before .before .loop .inv .1) (omega arith) (omega arith) (simp (f, c .before .fate .given .1)) (omega arith))
 
 enum-known-fate-2 : tie.Need-enum-known-fate-2 Inv-loop μ-loop
 enum-known-fate-2 c = search needs
@@ -92,7 +94,8 @@ loop-less-3 c = omega arith
 loop-again-3 : tie.Need-loop-again-3 Inv-loop μ-loop
 loop-again-3 c =
     let f64 : length (c .before .before .before .before .before .before .before .before .before .before .before .args .t3 .rows) ≡ 64 = simp length-map at (c .before .before .before .before .before .before .before .before .before .before .before .good .1 .1 .0 .1 .1 .0 .1 .0 .1) in
-    (omega arith, gives (c .before .before .before .before .before .before .before .loop .inv .1) (omega arith) (omega arith) (simp (sym (c .before .before .before .fate-at .ensures), c .before .fate2 .given .1)) (omega arith))
+    let f = sym (c .before .before .before .fate-at .ensures ∙ ap (λ (r : Row). fateAt (c .before .before .before .before .before .before .before .before .before .before .before .args .id) r (getD (c .before .before .before .before .before .before .before .before .before .before .before .args .t3 .rows) (c .before .before .before .before .before .before .before .loop .i) noFirst)) (c .before .before .before .before .before .row-at .ensures)) in
+    (omega arith, gives (c .before .before .before .before .before .before .before .loop .inv .1) (omega arith) (omega arith) (simp (f, c .before .fate2 .given .1)) (omega arith))
 
 enum-known-fate-3 : tie.Need-enum-known-fate-3 Inv-loop μ-loop
 enum-known-fate-3 c = search needs
@@ -112,7 +115,8 @@ loop-less-4 c = omega arith
 loop-again-4 : tie.Need-loop-again-4 Inv-loop μ-loop
 loop-again-4 c =
     let f64 : length (c .before .before .before .before .before .before .before .before .before .before .before .args .t3 .rows) ≡ 64 = simp length-map at (c .before .before .before .before .before .before .before .before .before .before .before .good .1 .1 .0 .1 .1 .0 .1 .0 .1) in
-    (omega arith, gives (c .before .before .before .before .before .before .before .loop .inv .1) (omega arith) (omega arith) (simp (sym (c .before .before .before .fate-at .ensures), c .before .fate3 .given .1)) (omega arith))
+    let f = sym (c .before .before .before .fate-at .ensures ∙ ap (λ (r : Row). fateAt (c .before .before .before .before .before .before .before .before .before .before .before .args .id) r (getD (c .before .before .before .before .before .before .before .before .before .before .before .args .t3 .rows) (c .before .before .before .before .before .before .before .loop .i) noFirst)) (c .before .before .before .before .before .row-at .ensures)) in
+    (omega arith, gives (c .before .before .before .before .before .before .before .loop .inv .1) (omega arith) (omega arith) (simp (f, c .before .fate3 .given .1)) (omega arith))
 
 returns : tie.Need-returns Inv-loop μ-loop
 returns c =
@@ -128,10 +132,9 @@ retired-of-spec =
     used-requires
     no-tokens-requires
     loop-holds
+    row-at-requires
     mul-fate-at
     element-copy-out-fate-at
-    mul-fate-at-2
-    element-copy-out-fate-at-2
     fate-at-requires
     add-i
     enum-told

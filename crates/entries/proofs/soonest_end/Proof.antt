@@ -1,34 +1,36 @@
 use Prim.Native.Nat.{_≤_, _<_, _-_, _+_}
-use mathlib.Core.Path.{_≡_, _∙_, sym}
+use mathlib.Core.Path.{_≡_, refl, ap, sym, _∙_}
 use native.Mathlib.Omega.{arith}
 use lib.ListN.{length, drop}
-use Rattle.rows.specs.Rows.{rowsOf, free}
-use Rattle.entries.specs.Entries.{soonest}
+use Rattle.rows.specs.Words.{rowsOf, noRow}
+use Rattle.rows.specs.declared.Table.the-variants.{Windows}
+use Rattle.rows.specs.Kinds.{entryOf}
+use Rattle.entries.specs.Entries.{endOf, soonest}
 use Rattle.entries.proofs.Steps.{soonest-end, soonest-more}
 use borrow.Author.Needs.{needs}
 use Rattle.entries.proofs.soonest_end.Statement.{statement}
 use Rattle.entries.proofs.soonest_end.Tie as tie
 
 abbrev Inv-loop : tie.InvT-loop
-Inv-loop windows i₀ end₀ i end = (i ≤ length (rowsOf windows)) × (i ≤ 64) × (end ≡ soonest (drop i (rowsOf windows)))
+Inv-loop l i₀ end₀ i end = (i ≤ length (rowsOf Windows l)) × (end ≡ soonest (drop i (rowsOf Windows l)))
 
 abbrev μ-loop : tie.MeasureT-loop
-μ-loop windows i₀ end₀ i end = i
+μ-loop l i₀ end₀ i end = i
 
 used-requires : tie.Need-used-requires Inv-loop μ-loop
 used-requires c κs = search needs
 
 loop-holds : tie.Need-loop-holds Inv-loop μ-loop
-loop-holds c = (omega arith, omega arith, sym (soonest-end (rowsOf (c .before .args .t1)) (c .used .result) (omega arith)))
+loop-holds c = (omega arith, sym (soonest-end (rowsOf Windows (c .before .args .l .now)) (c .used .result) (omega arith)))
 
 sub-i : tie.Need-sub-i Inv-loop μ-loop
 sub-i c = omega arith
 
-mul-row : tie.Need-mul-row Inv-loop μ-loop
-mul-row c = omega arith
+row-at-requires : tie.Need-row-at-requires Inv-loop μ-loop
+row-at-requires c κs = search needs
 
-element-copy-out-row : tie.Need-element-copy-out-row Inv-loop μ-loop
-element-copy-out-row c = omega arith
+entry-of-requires : tie.Need-entry-of-requires Inv-loop μ-loop
+entry-of-requires c κs = search needs
 
 end-of-requires : tie.Need-end-of-requires Inv-loop μ-loop
 end-of-requires c κs = search needs
@@ -41,17 +43,17 @@ loop-less c = omega arith
 
 loop-again : tie.Need-loop-again Inv-loop μ-loop
 loop-again c =
-    let t = c .before .before .before .before .before .before .args .t1 in
-    let w = c .before .before .before .before .loop in
+    let rs = rowsOf Windows (c .before .before .before .before .before .before .before .args .l .now) in
+    let w = c .before .before .before .before .before .loop in
     let e : w .i - 1 + 1 ≡ w .i = omega arith in
-    let b : w .i - 1 < length (rowsOf t) = omega arith in
-    let m = soonest-more (t .rows) (t .count) (w .i - 1) free b in
-    (omega arith, omega arith, c .sooner-of .ensures ∙ sym (m ∙ simp (e, w .inv .2, c .before .end-of .ensures)))
+    let b : w .i - 1 < length rs = omega arith in
+    let q = c .before .end-of .ensures ∙ ap endOf (c .before .before .entry-of .ensures ∙ ap entryOf (c .before .before .before .row-at .ensures)) in
+    (omega arith, c .sooner-of .ensures ∙ sym (soonest-more rs (w .i - 1) noRow b ∙ rw (e, sym (w .inv .1), sym q) refl))
 
 returns : tie.Need-returns Inv-loop μ-loop
 returns c =
     let z : c .before .loop .i ≡ 0 = omega arith in
-    rw z at (c .before .loop .inv .2)
+    rw z at (c .before .loop .inv .1)
 
 pub soonest-end-spec : {M : Type 1} → statement M
 soonest-end-spec =
@@ -62,8 +64,8 @@ soonest-end-spec =
     used-requires
     loop-holds
     sub-i
-    mul-row
-    element-copy-out-row
+    row-at-requires
+    entry-of-requires
     end-of-requires
     sooner-of-requires
     loop-less

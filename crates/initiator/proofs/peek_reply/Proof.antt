@@ -3,7 +3,8 @@
 use native.Mathlib.Omega.{arith}
 use denote.Ref.{now}
 use lib.ListN.{length-take}
-use Rattle.initiator.proofs.Peeks.{span-of, whole-inside, reply-more, reply-broken, reply-whole}
+use Rattle.frames.proofs.Gathers.{span-of}
+use Rattle.initiator.proofs.Peeks.{whole-inside, reply-more, reply-broken, reply-whole}
 use borrow.Author.Needs.{needs}
 use Rattle.initiator.proofs.peek_reply.Statement.{statement}
 use Rattle.initiator.proofs.peek_reply.Tie as tie

@@ -1,6 +1,8 @@
-use mathlib.Core.Path.{refl}
+use mathlib.Core.Path.{refl, ap}
 use native.Mathlib.Omega.{arith}
+use Rattle.candidates.specs.declared.Chosen.{Chosen}
 use Rattle.journal.proofs.Replaying.{zeros-long}
+use borrow.Author.Tests.{le-leb, lt-leb, lt-ltb, le-ltb, eq-eqb, ne-eqb}
 use borrow.Author.Needs.{needs}
 use Rattle.journal.proofs.main.Statement.{statement}
 use Rattle.journal.proofs.main.Tie as tie
@@ -10,6 +12,18 @@ large-buffer-requires c κs = search needs
 
 large-buffer-requires-2 : tie.Need-large-buffer-requires-2
 large-buffer-requires-2 c κs = search needs
+
+blank-requires : tie.Need-blank-requires
+blank-requires c κs = search needs
+
+blank-requires-2 : tie.Need-blank-requires-2
+blank-requires-2 c κs = search needs
+
+empty-requires : tie.Need-empty-requires
+empty-requires c κs = search needs
+
+empty-requires-2 : tie.Need-empty-requires-2
+empty-requires-2 c κs = search needs
 
 slice-aggregate-replay : tie.Need-slice-aggregate-replay
 slice-aggregate-replay c = search needs
@@ -24,7 +38,7 @@ slice-aggregate-replay-4 : tie.Need-slice-aggregate-replay-4
 slice-aggregate-replay-4 c = search needs
 
 replay-requires : tie.Need-replay-requires
-replay-requires c κs = (zeros-long 32768 (omega arith), omega (arith, c .before .before .before .before .large-buffer2 .ensures), refl)
+replay-requires c κs = (zeros-long 32768 (omega arith), omega (arith, c .before .before .before .before .before .before .before .before .before .before .before .before .before .large-buffer2 .ensures), refl, c .before .before .before .before .before .before .before .before .before .before .before .before .blank .ensures, ap (λ (z : Chosen). z .bytes) (c .before .before .before .before .before .before .before .before .before .before .empty .ensures), c .before .before .before .before .before .before .before .before .before .before .before .blank2 .ensures, c .before .before .before .before .before .before .before .before .empty2 .ensures .1, c .before .before .before .before .before .before .before .before .empty2 .ensures .0)
 
 slice-aggregate-finish : tie.Need-slice-aggregate-finish
 slice-aggregate-finish c = search needs
@@ -36,16 +50,4 @@ returns : tie.Need-returns
 returns c = search needs
 
 pub main-spec : {M : Type 1} → statement M
-main-spec =
-    tie.close
-    (tie.spec
-    large-buffer-requires
-    large-buffer-requires-2
-    slice-aggregate-replay
-    slice-aggregate-replay-2
-    slice-aggregate-replay-3
-    slice-aggregate-replay-4
-    replay-requires
-    slice-aggregate-finish
-    finish-requires
-    returns)
+main-spec = tie.close (tie.spec large-buffer-requires large-buffer-requires-2 blank-requires blank-requires-2 empty-requires empty-requires-2 slice-aggregate-replay slice-aggregate-replay-2 slice-aggregate-replay-3 slice-aggregate-replay-4 replay-requires slice-aggregate-finish finish-requires returns)

@@ -1,3 +1,4 @@
+use denote.Ref.{now}
 use Rattle.journal_effects.proofs.Short.{burst-short, send-short, laid-printed, laid-place}
 use Rattle.journal_prints.specs.Room.{isPath, isUpgrade, isClose, isReset, isOpen}
 use Rattle.journal_prints.proofs.Room.{short}
@@ -25,9 +26,6 @@ enum-known-effect-2 c = search needs
 in-range-requires-2 : tie.Need-in-range-requires-2
 in-range-requires-2 c κs = search needs
 
-slice-aggregate-put-targets : tie.Need-slice-aggregate-put-targets
-slice-aggregate-put-targets c = search needs
-
 put-targets-requires : tie.Need-put-targets-requires
 put-targets-requires c κs = search needs
 
@@ -54,9 +52,6 @@ enum-known-effect-5 c = search needs
 
 in-range-requires-5 : tie.Need-in-range-requires-5
 in-range-requires-5 c κs = search needs
-
-slice-aggregate-put-message : tie.Need-slice-aggregate-put-message
-slice-aggregate-put-message c = search needs
 
 put-message-requires : tie.Need-put-message-requires
 put-message-requires c κs = search needs
@@ -92,7 +87,7 @@ same-length-2 : tie.Need-same-length-2
 same-length-2 c = length-kept (laid _ _ _ (c .before .before .put-targets .ensures))
 
 returns-3 : tie.Need-returns-3
-returns-3 c = rw (c .before .before .before .before .before .before .before .before .effect2 .given .1) (c .before .before .put-targets .ensures .0, (c .before .before .put-targets .ensures .1, burst-short _ _ _ (c .before .before .before .before .before .before .before .before .before .before .before .args .targets) (c .before .before .before .before .before .before .in-range2 .ensures .0) (c .before .before .before .before .before .before .in-range2 .ensures .1) (c .before .before .before .before .before .before .in-range2 .ensures .2)))
+returns-3 c = rw (c .before .before .before .before .before .before .before .effect2 .given .1) (c .before .before .put-targets .ensures .0, (c .before .before .put-targets .ensures .1, burst-short _ _ _ (c .before .before .before .before .before .before .before .before .before .before .args .targets) (now (c .before .before .before .before .before .before .before .before .before .before .args .aims)) (c .before .before .before .before .before .in-range2 .ensures .0) (c .before .before .before .before .before .in-range2 .ensures .1) (c .before .before .before .before .before .in-range2 .ensures .2)))
 
 same-length-3 : tie.Need-same-length-3
 same-length-3 c = length-kept (laid _ _ _ (c .before .before .put-upgrade .ensures))
@@ -110,7 +105,7 @@ same-length-5 : tie.Need-same-length-5
 same-length-5 c = length-kept (laid _ _ _ (c .before .before .put-message .ensures))
 
 returns-6 : tie.Need-returns-6
-returns-6 c = rw (c .before .before .before .before .before .before .before .before .effect5 .given .1) (c .before .before .put-message .ensures .0, (c .before .before .put-message .ensures .1, send-short _ _ _ (c .before .before .before .before .before .before .before .before .before .before .before .args .message) (c .before .before .before .before .before .before .in-range5 .ensures .0) (c .before .before .before .before .before .before .in-range5 .ensures .1) (c .before .before .before .before .before .before .in-range5 .ensures .2)))
+returns-6 c = rw (c .before .before .before .before .before .before .before .effect5 .given .1) (c .before .before .put-message .ensures .0, (c .before .before .put-message .ensures .1, send-short _ _ _ (c .before .before .before .before .before .before .before .before .before .before .args .message) (now (c .before .before .before .before .before .before .before .before .before .before .args .sent)) (c .before .before .before .before .before .in-range5 .ensures .0) (c .before .before .before .before .before .in-range5 .ensures .1) (c .before .before .before .before .before .in-range5 .ensures .2)))
 
 same-length-6 : tie.Need-same-length-6
 same-length-6 c = length-kept (laid _ _ _ (c .before .before .put-reset .ensures))
@@ -134,7 +129,6 @@ put-effect-spec =
     put-path-requires
     enum-known-effect-2
     in-range-requires-2
-    slice-aggregate-put-targets
     put-targets-requires
     enum-known-effect-3
     in-range-requires-3
@@ -144,7 +138,6 @@ put-effect-spec =
     put-close-requires
     enum-known-effect-5
     in-range-requires-5
-    slice-aggregate-put-message
     put-message-requires
     enum-known-effect-6
     in-range-requires-6

@@ -1,5 +1,7 @@
 -- `journal_laws::names_in_words` meets its contract, which is the theorem: computed. Assumes nothing.
+use Prim.Native.Nat.{ℕ}
 use mathlib.Core.Path.{refl}
+use mathlib.Core.List.{List}
 use Rattle.ids.specs.declared.PeerId.{PeerId}
 use Rattle.text.specs.Decimal.{digitsOf}
 use Rattle.journal_effects.specs.declared.Effects.{Effects}
@@ -7,9 +9,9 @@ use Rattle.journal_laws.specs.Names.{NamesInWords}
 use Rattle.journal_laws.proofs.names_in_words.Statement.{statement}
 use Rattle.journal_laws.proofs.names_in_words.Tie as tie
 
-in-words : (e : Effects) (relay : PeerId) → NamesInWords e relay
+in-words : (e : Effects) (sent aims : List ℕ) (relay : PeerId) → NamesInWords e sent aims relay
 unfolding digitsOf
-in-words e relay = record { relayed = refl; unnamed = refl; direct = refl; inbound = refl; attempt = refl }
+in-words e sent aims relay = record { relayed = refl; unnamed = refl; direct = refl; inbound = refl; attempt = refl }
 
 returns : tie.Need-returns
 returns c = in-words

@@ -1,4 +1,6 @@
 use denote.Ref.{now}
+use Rattle.ledger.specs.Ledger.{tablesOf}
+use Rattle.journal_turns.specs.Turns.{whole}
 use Rattle.journal_text.proofs.Lines.{line-answered}
 use borrow.Author.Needs.{needs}
 use Rattle.journal_text.proofs.answer_line.Statement.{statement}
@@ -17,8 +19,10 @@ same-length-2 : tie.Need-same-length-2
 same-length-2 c = search needs
 
 returns : tie.Need-returns
-returns c = line-answered (c .before .before .before .before .before .before .before .before .before .before .before .before .before .args .j) (now (c .before .before .before .before .before .before .before .before .before .before .before .before .before .args .reply)) (now (c .before .before .before .before .before .before .before .before .before .before .before .before .before .args .line)) (c .before .before .before .before .before .before .before .before .before .before .before .before .before .args .ended) (now (c .before .before .before .before .before .before .before .before .before .before .before .before .before .args .out)) (c .before .before .before .before .before .before .before .before .before .before .before .before .before .args .at) (c .before .before .before .before .before .before .before .before .take-line .ensures) (c .before .before .put-said .ensures)
+returns c =
+    let a = c .before .before .before .before .before .before .before .before .before .before .before .before .before .before .before .before .before .before .before .args in
+    line-answered (whole (a .j) (now (a .connect)) (now (a .targets)) (tablesOf (now (a .ledger))) (now (a .ledger)) (now (a .sent))) (now (a .reply)) (now (a .line))
+    (a .ended) (now (a .out)) (a .at) _ (c .before .before .before .before .before .before .before .before .before .before .take-line .ensures) (c .before .before .put-said .ensures)
 
 pub answer-line-spec : {M : Type 1} → statement M
-answer-line-spec =
-    tie.close (tie.spec take-line-requires put-said-requires same-length same-length-2 returns)
+answer-line-spec = tie.close (tie.spec take-line-requires put-said-requires same-length same-length-2 returns)

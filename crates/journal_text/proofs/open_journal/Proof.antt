@@ -1,6 +1,7 @@
 use mathlib.Core.Path.{sym, ap, _∙_}
 use Rattle.text.proofs.Printing.{parts, laid-none}
-use Rattle.journal_turns.specs.Turns.{newJournal}
+use Rattle.journal_turns.specs.Turns.{newJournal, stateOf}
+use Rattle.vocabulary.specs.declared.Settings.{Settings}
 use Rattle.journal_text.specs.Texts.{settingsIn, opened}
 use borrow.Author.Needs.{needs}
 use Rattle.journal_text.proofs.open_journal.Statement.{statement}
@@ -20,7 +21,7 @@ enum-told c = search needs
 
 returns : tie.Need-returns
 unfolding opened
-returns c = (simp (c .enum-told .given .1, sym (c .before .before .before .before .read-first .ensures)), (c .before .before .new-journal .ensures ∙ ap newJournal (c .before .before .before .settings-in .ensures ∙ ap settingsIn (c .before .before .before .before .read-first .ensures)), simp (c .enum-told .given .1, sym (c .before .before .before .before .read-first .ensures)) (parts (laid-none _ _))))
+returns c = (simp (c .enum-told .given .1, sym (c .before .before .before .before .read-first .ensures)), (c .before .before .new-journal .ensures ∙ ap (λ (x : Settings). stateOf (newJournal x)) (c .before .before .before .settings-in .ensures ∙ ap settingsIn (c .before .before .before .before .read-first .ensures)), simp (c .enum-told .given .1, sym (c .before .before .before .before .read-first .ensures)) (parts (laid-none _ _))))
 
 enum-told-2 : tie.Need-enum-told-2
 enum-told-2 c = search needs
@@ -33,7 +34,7 @@ same-length c = search needs
 
 returns-2 : tie.Need-returns-2
 unfolding opened
-returns-2 c = (simp (c .before .before .before .before .enum-told2 .given .1, sym (c .before .before .before .before .before .before .before .before .read-first .ensures)), (c .before .before .before .before .before .before .new-journal .ensures ∙ ap newJournal (c .before .before .before .before .before .before .before .settings-in .ensures ∙ ap settingsIn (c .before .before .before .before .before .before .before .before .read-first .ensures)), simp (c .before .before .before .before .enum-told2 .given .1, sym (c .before .before .before .before .before .before .before .before .read-first .ensures)) (c .before .before .put-refused .ensures)))
+returns-2 c = (simp (c .before .before .before .before .enum-told2 .given .1, sym (c .before .before .before .before .before .before .before .before .read-first .ensures)), (c .before .before .before .before .before .before .new-journal .ensures ∙ ap (λ (x : Settings). stateOf (newJournal x)) (c .before .before .before .before .before .before .before .settings-in .ensures ∙ ap settingsIn (c .before .before .before .before .before .before .before .before .read-first .ensures)), simp (c .before .before .before .before .enum-told2 .given .1, sym (c .before .before .before .before .before .before .before .before .read-first .ensures)) (c .before .before .put-refused .ensures)))
 
 pub open-journal-spec : {M : Type 1} → statement M
 open-journal-spec =

@@ -1,3 +1,4 @@
+use denote.Ref.{now}
 use native.Mathlib.Omega.{arith}
 use Rattle.journal_text.proofs.Ranges.{refused-short}
 use borrow.Author.Needs.{needs}
@@ -38,7 +39,7 @@ same-length-3 : tie.Need-same-length-3
 same-length-3 c = search needs
 
 returns-3 : tie.Need-returns-3
-returns-3 c = (rw (c .before .before .before .before .before .said2 .given .1) (c .before .before .put-refused .ensures .0), (rw (c .before .before .before .before .before .said2 .given .1) (c .before .before .put-refused .ensures .1), refused-short (c .before .before .before .before .before .before .before .before .args .n) (c .before .before .before .before .before .before .before .before .args .effects) (c .before .before .before .before .before .said2 .given .1) (omega (arith, c .before .before .before .before .before .before .before .before .fits .n))))
+returns-3 c = (rw (c .before .before .before .before .before .said2 .given .1) (c .before .before .put-refused .ensures .0), (rw (c .before .before .before .before .before .said2 .given .1) (c .before .before .put-refused .ensures .1), refused-short (c .before .before .before .before .before .before .before .before .args .n) (c .before .before .before .before .before .before .before .before .args .effects) (now (c .before .before .before .before .before .before .before .before .args .sent)) (now (c .before .before .before .before .before .before .before .before .args .aims)) (c .before .before .before .before .before .said2 .given .1) (omega (arith, c .before .before .before .before .before .before .before .before .fits .n))))
 
 pub put-said-spec : {M : Type 1} → statement M
 put-said-spec =

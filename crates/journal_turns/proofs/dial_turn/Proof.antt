@@ -1,5 +1,8 @@
-use Rattle.journal_turns.specs.Turns.{dialTurn}
+use Rattle.journal_turns.specs.Turns.{saying, saidOf}
+use Rattle.vocabulary.specs.declared.Outcome.{Outcome}
+use mathlib.Core.Path.{_∙_, ap}
 use mathlib.Core.Path.{sym}
+use borrow.Author.Tests.{le-leb, lt-leb, lt-ltb, le-ltb, eq-eqb, ne-eqb}
 use borrow.Author.Needs.{needs}
 use Rattle.journal_turns.proofs.dial_turn.Statement.{statement}
 use Rattle.journal_turns.proofs.dial_turn.Tie as tie
@@ -10,35 +13,20 @@ dial-started-requires c κs = search needs
 enum-known-outcome : tie.Need-enum-known-outcome
 enum-known-outcome c = search needs
 
-refuse-requires : tie.Need-refuse-requires
-refuse-requires c κs = search needs
+say-requires : tie.Need-say-requires
+say-requires c κs = search needs
 
 returns : tie.Need-returns
-unfolding dialTurn
-returns c = simp (sym (c .refuse .ensures), c .before .before .outcome .given .1, sym (c .before .before .before .before .dial-started .ensures))
+returns c = (c .say .ensures ∙ ap (λ (o : Outcome). saying (c .before .before .before .before .before .before .args .j) (saidOf o)) (sym (c .before .before .outcome .given .1) ∙ c .before .before .before .before .dial-started .ensures .0), c .before .before .before .before .dial-started .ensures .1)
 
 enum-told : tie.Need-enum-told
 enum-told c = search needs
 
-with-state-requires : tie.Need-with-state-requires
-with-state-requires c κs = search needs
-
-say-nothing-requires : tie.Need-say-nothing-requires
-say-nothing-requires c κs = search needs
+say-requires-2 : tie.Need-say-requires-2
+say-requires-2 c κs = search needs
 
 returns-2 : tie.Need-returns-2
-unfolding dialTurn
-returns-2 c = simp (sym (c .say-nothing .ensures), sym (c .before .with-state .ensures), c .before .before .before .enum-told .given .1, sym (c .before .before .before .before .before .dial-started .ensures))
+returns-2 c = (c .say2 .ensures ∙ ap (λ (o : Outcome). saying (c .before .before .before .before .before .args .j) (saidOf o)) (sym (c .before .enum-told .given .1) ∙ c .before .before .before .dial-started .ensures .0), c .before .before .before .dial-started .ensures .1)
 
 pub dial-turn-spec : {M : Type 1} → statement M
-dial-turn-spec =
-    tie.close
-    (tie.spec
-    dial-started-requires
-    enum-known-outcome
-    refuse-requires
-    returns
-    enum-told
-    with-state-requires
-    say-nothing-requires
-    returns-2)
+dial-turn-spec = tie.close (tie.spec dial-started-requires enum-known-outcome say-requires returns enum-told say-requires-2 returns-2)

@@ -1,5 +1,6 @@
 use Rattle.journal_turns.specs.Turns.{newJournal}
 use mathlib.Core.Path.{sym}
+use borrow.Author.Tests.{le-leb, lt-leb, lt-ltb, le-ltb, eq-eqb, ne-eqb}
 use borrow.Author.Needs.{needs}
 use Rattle.journal_turns.proofs.new_journal.Statement.{statement}
 use Rattle.journal_turns.proofs.new_journal.Tie as tie
@@ -7,12 +8,9 @@ use Rattle.journal_turns.proofs.new_journal.Tie as tie
 new-requires : tie.Need-new-requires
 new-requires c κs = search needs
 
-empty-requires : tie.Need-empty-requires
-empty-requires c κs = search needs
-
 returns : tie.Need-returns
 unfolding newJournal
-returns c = simp (sym (c .empty .ensures), sym (c .before .before .new .ensures))
+returns c = simp (sym (c .before .new .ensures))
 
 pub new-journal-spec : {M : Type 1} → statement M
-new-journal-spec = tie.close (tie.spec new-requires empty-requires returns)
+new-journal-spec = tie.close (tie.spec new-requires returns)

@@ -1,5 +1,10 @@
+use Rattle.journal_turns.specs.Turns.{whole}
+use Rattle.ledger.specs.Ledger.{tablesOf}
+use denote.Ref.{now}
+use mathlib.Core.Path.{_∙_}
+use Rattle.journal_turns.proofs.Turning.{taken-call, untaken-call, free-call}
 use mathlib.Core.Path.{sym}
-use Rattle.journal_turns.specs.Turns.{turnOf}
+use borrow.Author.Tests.{le-leb, lt-leb, lt-ltb, le-ltb, eq-eqb, ne-eqb}
 use borrow.Author.Needs.{needs}
 use Rattle.journal_turns.proofs.take_call.Statement.{statement}
 use Rattle.journal_turns.proofs.take_call.Tie as tie
@@ -14,15 +19,13 @@ same-length : tie.Need-same-length
 same-length c = search needs
 
 returns : tie.Need-returns
-unfolding turnOf
-returns c = (simp (c .before .before .before .before .if2 .taken, c .before .before .before .before .before .if1 .taken, sym (c .before .before .before .before .before .before .needs-start .ensures)) (c .before .before .make-call .ensures .0), simp (c .before .before .before .before .if2 .taken, c .before .before .before .before .before .if1 .taken, sym (c .before .before .before .before .before .before .needs-start .ensures)) (c .before .before .make-call .ensures .1))
+returns c = taken-call (now (c .before .before .before .before .before .before .before .before .before .before .before .before .before .args .line)) (whole (c .before .before .before .before .before .before .before .before .before .before .before .before .before .args .j) (now (c .before .before .before .before .before .before .before .before .before .before .before .before .before .args .connect)) (now (c .before .before .before .before .before .before .before .before .before .before .before .before .before .args .targets)) (tablesOf (now (c .before .before .before .before .before .before .before .before .before .before .before .before .before .args .ledger))) (now (c .before .before .before .before .before .before .before .before .before .before .before .before .before .args .ledger)) (now (c .before .before .before .before .before .before .before .before .before .before .before .before .before .args .sent))) (now (c .before .before .before .before .before .before .before .before .before .before .before .before .before .args .reply)) (c .before .before .before .before .before .before .before .before .before .before .before .before .before .args .call) (sym (c .before .before .before .before .before .before .before .before .before .before .needs-start .ensures) ∙ c .before .before .before .before .before .before .before .before .before .if1 .taken) (c .before .before .before .before .before .before .before .before .if2 .taken) (c .before .before .make-call .ensures)
 
-refuse-requires : tie.Need-refuse-requires
-refuse-requires c κs = search needs
+say-requires : tie.Need-say-requires
+say-requires c κs = search needs
 
 returns-2 : tie.Need-returns-2
-unfolding turnOf
-returns-2 c = (simp (sym (c .refuse .ensures), c .before .if2 .left, c .before .before .if1 .taken, sym (c .before .before .before .needs-start .ensures)), simp (c .before .if2 .left, c .before .before .if1 .taken, sym (c .before .before .before .needs-start .ensures)))
+returns-2 c = untaken-call (now (c .before .before .before .before .before .before .args .line)) (c .before .before .before .before .before .before .args .j) (now (c .before .before .before .before .before .before .args .connect)) (now (c .before .before .before .before .before .before .args .targets)) (now (c .before .before .before .before .before .before .args .ledger)) (now (c .before .before .before .before .before .before .args .sent)) (now (c .before .before .before .before .before .before .args .reply)) (c .before .before .before .before .before .before .args .call) (sym (c .before .before .before .needs-start .ensures) ∙ c .before .before .if1 .taken) (c .before .if2 .left) (c .say .ensures)
 
 make-call-requires-2 : tie.Need-make-call-requires-2
 make-call-requires-2 c κs = search needs
@@ -31,8 +34,7 @@ same-length-2 : tie.Need-same-length-2
 same-length-2 c = search needs
 
 returns-3 : tie.Need-returns-3
-unfolding turnOf
-returns-3 c = (simp (c .before .before .before .before .if1 .left, sym (c .before .before .before .before .before .needs-start .ensures)) (c .before .before .make-call2 .ensures .0), simp (c .before .before .before .before .if1 .left, sym (c .before .before .before .before .before .needs-start .ensures)) (c .before .before .make-call2 .ensures .1))
+returns-3 c = free-call (now (c .before .before .before .before .before .before .before .before .before .before .before .before .args .line)) (whole (c .before .before .before .before .before .before .before .before .before .before .before .before .args .j) (now (c .before .before .before .before .before .before .before .before .before .before .before .before .args .connect)) (now (c .before .before .before .before .before .before .before .before .before .before .before .before .args .targets)) (tablesOf (now (c .before .before .before .before .before .before .before .before .before .before .before .before .args .ledger))) (now (c .before .before .before .before .before .before .before .before .before .before .before .before .args .ledger)) (now (c .before .before .before .before .before .before .before .before .before .before .before .before .args .sent))) (now (c .before .before .before .before .before .before .before .before .before .before .before .before .args .reply)) (c .before .before .before .before .before .before .before .before .before .before .before .before .args .call) (sym (c .before .before .before .before .before .before .before .before .before .needs-start .ensures) ∙ c .before .before .before .before .before .before .before .before .if1 .left) (c .before .before .make-call2 .ensures)
 
 pub take-call-spec : {M : Type 1} → statement M
-take-call-spec = tie.close (tie.spec needs-start-requires make-call-requires same-length returns refuse-requires returns-2 make-call-requires-2 same-length-2 returns-3)
+take-call-spec = tie.close (tie.spec needs-start-requires make-call-requires same-length returns say-requires returns-2 make-call-requires-2 same-length-2 returns-3)

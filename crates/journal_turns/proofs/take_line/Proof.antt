@@ -1,12 +1,17 @@
+use lib.Dec.{ltb}
+use lib.ListN.{length}
+use Rattle.journal_turns.specs.Turns.{longest}
+use denote.Ref.{now}
+use Rattle.journal_turns.proofs.Turning.{unread-line, both-false, none-false}
+use Rattle.journal_turns.specs.Turns.{counted, read, turnOf, lineTurn}
 use mathlib.Core.Path.{sym}
-use borrow.Author.Tests.{lt-ltb, le-ltb}
-use Rattle.journal_turns.specs.Turns.{turnOf, read, lineTurn}
+use borrow.Author.Tests.{le-leb, lt-leb, lt-ltb, le-ltb, eq-eqb, ne-eqb}
 use borrow.Author.Needs.{needs}
 use Rattle.journal_turns.proofs.take_line.Statement.{statement}
 use Rattle.journal_turns.proofs.take_line.Tie as tie
 
-count-requires : tie.Need-count-requires
-count-requires c κs = search needs
+one-more-requires : tie.Need-one-more-requires
+one-more-requires c κs = search needs
 
 read-call-requires : tie.Need-read-call-requires
 read-call-requires c κs = search needs
@@ -18,33 +23,20 @@ same-length : tie.Need-same-length
 same-length c = search needs
 
 returns : tie.Need-returns
-unfolding read lineTurn
-returns c = (simp (sym (c .before .before .before .before .read-call .ensures), lt-ltb _ _ (c .before .before .before .before .before .if2 .taken), c .before .before .before .before .before .before .if1 .taken, sym (c .before .before .before .before .before .before .before .count .ensures)) (c .before .before .take-call .ensures .0), simp (sym (c .before .before .before .before .read-call .ensures), lt-ltb _ _ (c .before .before .before .before .before .if2 .taken), c .before .before .before .before .before .before .if1 .taken, sym (c .before .before .before .before .before .before .before .count .ensures)) (c .before .before .take-call .ensures .1))
+unfolding counted read lineTurn
+returns c = simp (sym (c .before .before .before .before .before .before .before .before .read-call .ensures), lt-ltb _ _ (c .before .before .before .before .before .before .before .before .before .if2 .taken), c .before .before .before .before .before .before .before .before .before .before .if1 .taken, sym (c .before .before .before .before .before .before .before .before .before .before .before .before .before .one-more .ensures)) (c .before .before .take-call .ensures)
 
-refuse-requires : tie.Need-refuse-requires
-refuse-requires c κs = search needs
+say-requires : tie.Need-say-requires
+say-requires c κs = search needs
 
 returns-2 : tie.Need-returns-2
-unfolding turnOf read lineTurn
-returns-2 c = (simp (sym (c .refuse .ensures), le-ltb _ _ (c .before .if2 .left), c .before .before .if1 .taken, sym (c .before .before .before .count .ensures)), simp (le-ltb _ _ (c .before .if2 .left), c .before .before .if1 .taken, sym (c .before .before .before .count .ensures)))
+returns-2 c = unread-line (c .before .before .before .before .before .before .before .before .args .j) (now (c .before .before .before .before .before .before .before .before .args .connect)) (now (c .before .before .before .before .before .before .before .before .args .targets)) (now (c .before .before .before .before .before .before .before .before .args .ledger)) (now (c .before .before .before .before .before .before .before .before .args .sent)) (now (c .before .before .before .before .before .before .before .before .args .reply)) (now (c .before .before .before .before .before .before .before .before .args .line)) (c .before .before .before .before .before .before .before .before .args .ended) (c .before .before .before .before .before .one-more .ensures) (both-false (c .before .before .if1 .taken) (le-ltb _ _ (c .before .if2 .left))) (c .say .ensures)
 
-refuse-requires-2 : tie.Need-refuse-requires-2
-refuse-requires-2 c κs = search needs
+say-requires-2 : tie.Need-say-requires-2
+say-requires-2 c κs = search needs
 
 returns-3 : tie.Need-returns-3
-unfolding turnOf read lineTurn
-returns-3 c = (simp (sym (c .refuse2 .ensures), c .before .if1 .left, sym (c .before .before .count .ensures)), simp (c .before .if1 .left, sym (c .before .before .count .ensures)))
+returns-3 c = unread-line (c .before .before .before .before .before .before .before .args .j) (now (c .before .before .before .before .before .before .before .args .connect)) (now (c .before .before .before .before .before .before .before .args .targets)) (now (c .before .before .before .before .before .before .before .args .ledger)) (now (c .before .before .before .before .before .before .before .args .sent)) (now (c .before .before .before .before .before .before .before .args .reply)) (now (c .before .before .before .before .before .before .before .args .line)) (c .before .before .before .before .before .before .before .args .ended) (c .before .before .before .before .one-more .ensures) (none-false (ltb (length (now (c .before .before .before .before .before .before .before .args .line))) longest) (c .before .if1 .left)) (c .say2 .ensures)
 
 pub take-line-spec : {M : Type 1} → statement M
-take-line-spec =
-    tie.close
-    (tie.spec
-    count-requires
-    read-call-requires
-    take-call-requires
-    same-length
-    returns
-    refuse-requires
-    returns-2
-    refuse-requires-2
-    returns-3)
+take-line-spec = tie.close (tie.spec one-more-requires read-call-requires take-call-requires same-length returns say-requires returns-2 say-requires-2 returns-3)

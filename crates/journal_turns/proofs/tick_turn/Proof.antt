@@ -1,5 +1,9 @@
-use Rattle.journal_turns.specs.Turns.{tickTurn}
+use Rattle.inbound.specs.Calls.{tickOf}
+use Rattle.ledger.specs.Ledger.{tablesOf}
+use denote.Ref.{now}
+use Rattle.journal_turns.proofs.Turning.{ticked-turn}
 use mathlib.Core.Path.{sym}
+use borrow.Author.Tests.{le-leb, lt-leb, lt-ltb, le-ltb, eq-eqb, ne-eqb}
 use borrow.Author.Needs.{needs}
 use Rattle.journal_turns.proofs.tick_turn.Statement.{statement}
 use Rattle.journal_turns.proofs.tick_turn.Tie as tie
@@ -7,15 +11,14 @@ use Rattle.journal_turns.proofs.tick_turn.Tie as tie
 on-tick-requires : tie.Need-on-tick-requires
 on-tick-requires c κs = search needs
 
-on-tick-requires-2 : tie.Need-on-tick-requires-2
-on-tick-requires-2 c κs = search needs
+expire-requires : tie.Need-expire-requires
+expire-requires c κs = search needs
 
 settle-requires : tie.Need-settle-requires
 settle-requires c κs = search needs
 
 returns : tie.Need-returns
-unfolding tickTurn
-returns c = simp (sym (c .settle .ensures), sym (c .before .on-tick2 .ensures), sym (c .before .before .before .on-tick .ensures))
+returns c = ticked-turn (c .before .before .before .before .before .before .before .before .before .args .j) (tickOf (c .before .before .before .before .before .before .before .before .before .args .j .core) (c .before .before .before .before .before .before .before .before .before .args .host) (now (c .before .before .before .before .before .before .before .before .before .args .own))) (c .before .before .before .before .before .before .before .before .before .args .host .at) (c .before .before .before .before .before .before .before .before .before .args .j .core .source) (tablesOf (now (c .before .before .before .before .before .before .before .before .before .args .ledger))) (now (c .before .before .before .before .before .before .before .before .before .args .ledger)) _ (c .settle .ensures) (c .before .expire .ensures) (c .before .before .before .on-tick .ensures)
 
 pub tick-turn-spec : {M : Type 1} → statement M
-tick-turn-spec = tie.close (tie.spec on-tick-requires on-tick-requires-2 settle-requires returns)
+tick-turn-spec = tie.close (tie.spec on-tick-requires expire-requires settle-requires returns)

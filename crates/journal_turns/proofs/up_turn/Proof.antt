@@ -1,5 +1,8 @@
-use Rattle.journal_turns.specs.Turns.{upTurn}
+use Rattle.journal_turns.specs.Turns.{settledIn}
+use Rattle.inbound.specs.declared.decision.Decision.{Decision}
+use mathlib.Core.Path.{_∙_, ap}
 use mathlib.Core.Path.{sym}
+use borrow.Author.Tests.{le-leb, lt-leb, lt-ltb, le-ltb, eq-eqb, ne-eqb}
 use borrow.Author.Needs.{needs}
 use Rattle.journal_turns.proofs.up_turn.Statement.{statement}
 use Rattle.journal_turns.proofs.up_turn.Tie as tie
@@ -11,8 +14,7 @@ settle-requires : tie.Need-settle-requires
 settle-requires c κs = search needs
 
 returns : tie.Need-returns
-unfolding upTurn
-returns c = simp (sym (c .settle .ensures), sym (c .before .before .on-connection-established .ensures))
+returns c = (c .settle .ensures ∙ ap (λ (z : Decision). settledIn (c .before .before .before .before .before .before .before .args .j) z (z .outcome)) (c .before .on-connection-established .ensures .0), c .before .on-connection-established .ensures .1)
 
 pub up-turn-spec : {M : Type 1} → statement M
 up-turn-spec = tie.close (tie.spec on-connection-established-requires settle-requires returns)

@@ -38,4 +38,17 @@ returns : tie.Need-returns
 returns c = parts (then (then (then (then (then (laid _ _ _ (c .before .before .before .before .before .before .before .before .before .before .before .before .before .before .before .before .before .before .before .before .before .before .before .before .put-text .ensures)) (laid _ _ _ (c .before .before .before .before .before .before .before .before .before .before .before .before .before .before .before .before .before .before .before .before .put-rows .ensures))) (laid _ _ _ (c .before .before .before .before .before .before .before .before .before .before .before .before .before .before .before .put-text2 .ensures))) (laid _ _ _ (c .before .before .before .before .before .before .before .before .before .before .before .put-rows2 .ensures))) (laid _ _ _ (c .before .before .before .before .before .before .put-text3 .ensures))) (laid _ _ _ (c .before .before .put-rows3 .ensures)))
 
 pub put-ledger-spec : {M : Type 1} → statement M
-put-ledger-spec = tie.close (tie.spec slice-aggregate-put-text put-text-requires put-rows-requires slice-aggregate-put-text-2 put-text-requires-2 put-rows-requires-2 slice-aggregate-put-text-3 put-text-requires-3 put-rows-requires-3 same-length returns)
+put-ledger-spec =
+    tie.close
+    (tie.spec
+    slice-aggregate-put-text
+    put-text-requires
+    put-rows-requires
+    slice-aggregate-put-text-2
+    put-text-requires-2
+    put-rows-requires-2
+    slice-aggregate-put-text-3
+    put-text-requires-3
+    put-rows-requires-3
+    same-length
+    returns)

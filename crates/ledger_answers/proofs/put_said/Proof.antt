@@ -20,4 +20,6 @@ returns : tie.Need-returns
 returns c = parts (then (laid _ _ _ (c .before .before .before .before .before .before .before .put-words .ensures)) (laid _ _ _ (c .before .before .put-text .ensures)))
 
 pub put-said-spec : {M : Type 1} → statement M
-put-said-spec = tie.close (tie.spec put-words-requires slice-aggregate-put-text put-text-requires same-length returns)
+put-said-spec =
+    tie.close
+    (tie.spec put-words-requires slice-aggregate-put-text put-text-requires same-length returns)

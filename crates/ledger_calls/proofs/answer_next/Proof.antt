@@ -23,7 +23,7 @@ slice-reshare-prefix-answer : tie.Need-slice-reshare-prefix-answer
 slice-reshare-prefix-answer c = search needs
 
 slice-aggregate-answer : tie.Need-slice-aggregate-answer
-slice-aggregate-answer c = simp length-take (omega (arith, c .before .whole-length .ensures .1))
+slice-aggregate-answer c = simp length-take (omega (arith, c .before .before .whole-length .ensures .1))
 
 answer-requires : tie.Need-answer-requires
 answer-requires c κs = search needs

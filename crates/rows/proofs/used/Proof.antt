@@ -1,18 +1,15 @@
-use mathlib.Core.Path.{_≡_}
-use native.Mathlib.Omega.{arith}
-use lib.ListN.{length, length-take, length-map}
+use borrow.Author.Needs.{needs}
 use Rattle.rows.proofs.used.Statement.{statement}
 use Rattle.rows.proofs.used.Tie as tie
 
-returns : tie.Need-returns
-returns c =
-    let h : length (c .before .before .args .table .rows) ≡ 64 = simp length-map at (c .before .before .good .0 .1 .1 .0 .1 .0 .1) in
-    (simp (length-take, h) (omega arith), omega arith)
+start-of-requires : tie.Need-start-of-requires
+start-of-requires c κs = search needs
 
-returns-2 : tie.Need-returns-2
-returns-2 c =
-    let h : length (c .before .before .args .table .rows) ≡ 64 = simp length-map at (c .before .before .good .0 .1 .1 .0 .1 .0 .1) in
-    (simp (length-take, h) (omega arith), omega arith)
+count-requires : tie.Need-count-requires
+count-requires c κs = search needs
+
+returns : tie.Need-returns
+returns c = rw (c .before .start-of .ensures .0) at (c .count .ensures)
 
 pub used-spec : {M : Type 1} → statement M
-used-spec = tie.close (tie.spec returns returns-2)
+used-spec = tie.close (tie.spec start-of-requires count-requires returns)

@@ -1,0 +1,199 @@
+// Frames (lib.rs): CONNECT and SYNC as they go out, the CONNECT of an own address list, and a frame that is gathered in a lent buffer.
+use candidates::Chosen;
+use message::Encoded;
+use message::Kind;
+use wire::Frame;
+ghost use mathlib.Core.Path.{_≡_};
+ghost use mathlib.Core.List.{List, []};
+ghost use Prim.Native.Nat.{ℕ, _+_, _<_, _≤_};
+ghost use lib.ListN.{length, replicate};
+ghost use Rattle.message.specs.Encoding.{frameBytes};
+ghost use Rattle.wire.specs.Frame.{maxFrameSize};
+ghost use Rattle.wire.specs.Lists.{listed};
+ghost use Rattle.frames.specs.Sent.{frameCapacity, packed, connectFrame, syncFrame, longer, chosenConnect, ownConnect};
+ghost use Rattle.frames.specs.Gathering.{gathered, gatheredInto, frameByte};
+
+// ---- Frames that go out
+
+// The most bytes of a frame that goes out: CONNECT with eight own addresses, four of them of 23 bytes and four of 11.
+pub const FRAME_CAPACITY: usize = 156;
+
+pub type FrameBytes = [u8; FRAME_CAPACITY];
+
+// A frame's bytes from the first on, and their number.
+pub struct Framed {
+    pub bytes: FrameBytes,
+    pub len: usize,
+}
+
+pub fn blank() -> FrameBytes
+    ensures { λ r. ⌜ r ≡ replicate frameCapacity 0 ⌝ }
+{
+    [0u8; FRAME_CAPACITY]
+}
+
+pub fn size(bytes: &[u8]) -> usize
+    ensures { λ r. ⌜ r ≡ length (now (bytes .entry)) ⌝ }
+{
+    bytes.len()
+}
+
+// How long a frame's bytes are: a fact for the proofs.
+pub fn known(bytes: &FrameBytes)
+    ensures { λ _. ⌜ length (now (bytes .entry)) ≡ frameCapacity ⌝ }
+{
+    size(bytes);
+}
+
+impl Framed {
+    // No frame.
+    pub fn empty() -> Self
+        ensures { λ r. ⌜ r ≡ packed [] ⌝ }
+    {
+        let bytes = blank();
+        Framed { bytes, len: 0 }
+    }
+}
+
+// The framed CONNECT with the addresses of a list; empty for a broken list, or for one whose frame has no room.
+pub fn connect_frame(own: &[u8]) -> Framed
+    ensures { λ r. ⌜ r ≡ connectFrame (now (own .entry)) ⌝ }
+{
+    let mut bytes = blank();
+    match message::encode_frame(Kind::Connect, own, &mut bytes) {
+        Encoded::Message(len) => Framed { bytes, len },
+        Encoded::Refused(_) => Framed { bytes, len: 0 },
+    }
+}
+
+// The framed SYNC.
+pub fn sync_frame() -> Framed
+    ensures { λ r. ⌜ r ≡ syncFrame ⌝ }
+{
+    let mut bytes = blank();
+    bytes[0] = 0x03;
+    bytes[1] = 0x08;
+    bytes[2] = 0xac;
+    bytes[3] = 0x02;
+    Framed { bytes, len: 4 }
+}
+
+// ---- The CONNECT of an own list
+
+fn connect_of(chosen: Chosen) -> Framed
+    requires { ⌜ chosen .len ≤ length (chosen .bytes) ⌝ }
+    ensures { λ r. ⌜ r ≡ chosenConnect chosen ⌝ }
+{
+    let bytes = chosen.bytes;
+    let len = chosen.len;
+    connect_frame(&bytes[..len])
+}
+
+// The framed CONNECT with the candidates of an own list; empty for a broken list.
+pub fn own_connect(list: &[u8]) -> Framed
+    ensures { λ r. ⌜ r ≡ ownConnect (now (list .entry)) ⌝ }
+{
+    let selection = candidates::own_punch_candidates(list);
+    let outcome = selection.outcome;
+    match outcome {
+        candidates::Outcome::Refused(_) => {
+            return Framed::empty();
+        }
+        candidates::Outcome::Kept => {
+            let chosen = selection.chosen;
+            return connect_of(chosen);
+        }
+    }
+}
+
+// ---- A frame gathered
+
+// How many frame bytes the buffer has, and what frame they are.
+pub struct Gathered {
+    pub count: usize,
+    pub frame: Frame,
+}
+
+// The byte at a place of the frame: in the buffer before count, else in the input; 0 where there is none.
+fn frame_byte(input: &[u8], buffer: &[u8], count: usize, place: usize) -> u8
+    ensures { λ r. ⌜ r ≡ frameByte (now (input .entry)) (now (buffer .entry)) count place ⌝ }
+{
+    if place < count {
+        if place < buffer.len() {
+            return buffer[place];
+        }
+        return 0;
+    }
+    let i = place - count;
+    if i < input.len() {
+        return input[i];
+    }
+    0
+}
+
+// What gathering an input would answer, with the buffer left as it is.
+pub fn look_ahead(input: &[u8], buffer: &[u8], count: usize) -> Gathered
+    ensures { λ r. ⌜ r ≡ gathered (now (input .entry)) (now (buffer .entry)) count ⌝ }
+{
+    let first = frame_byte(input, buffer, count, 0);
+    let second = frame_byte(input, buffer, count, 1);
+    let mut n = count;
+    let mut i: usize = 0;
+    while i < input.len() {
+        if buffer.len() <= n {
+            return Gathered {
+                count: n,
+                frame: Frame::Broken,
+            };
+        }
+        n += 1;
+        i += 1;
+        match wire::frame_from(first, second, n) {
+            Frame::More => {}
+            Frame::Whole { start, len } => {
+                return Gathered {
+                    count: n,
+                    frame: Frame::Whole {
+                        start: start,
+                        len: len,
+                    },
+                };
+            }
+            Frame::Broken => {
+                return Gathered {
+                    count: n,
+                    frame: Frame::Broken,
+                };
+            }
+        }
+    }
+    Gathered {
+        count: n,
+        frame: Frame::More,
+    }
+}
+
+// Stores an input behind the count frame bytes of the buffer, up to the byte that completes or breaks the frame.
+pub fn gather(input: &[u8], buffer: &mut [u8], count: usize) -> Gathered
+    ensures answer { λ r. ⌜ r ≡ gathered (now (input .entry)) (now (buffer .entry)) count ⌝ }
+    ensures stored { λ r. ⌜ now (buffer .exit) ≡ gatheredInto (now (input .entry)) (now (buffer .entry)) count ⌝ }
+{
+    let g = look_ahead(input, buffer, count);
+    let end = g.count;
+    let n = end - count;
+    wire::put_bytes(&input[..n], buffer, count);
+    g
+}
+
+// ---- Theorems
+
+// The framed CONNECT fits, and is never empty, for at most eight addresses, at most four of them with more than 11 bytes and none
+// with more than 23.
+pub fn connect_frame_fits()
+    ensures { λ r. ⌜ ((xs : List (List ℕ)) → length xs ≤ 8 → longer 11 xs ≤ 4 → longer 23 xs ≡ 0 → (length (frameBytes Kind.Connect xs) ≤ frameCapacity) × (connectFrame (listed xs) ≡ packed (frameBytes Kind.Connect xs))) ⌝ }
+{}
+
+// A count that gathering hands on stays below the longest frame: a buffer of that length has room for every next byte.
+pub fn count_stays_below()
+    ensures { λ r. ⌜ ((xs b : List ℕ) (n : ℕ) → n < maxFrameSize → gathered xs b n .frame ≡ Frame.More → gathered xs b n .count < maxFrameSize) ⌝ }
+{}

@@ -1,0 +1,52 @@
+use borrow.Author.Tests.{le-leb, lt-leb, lt-ltb, le-ltb, eq-eqb, ne-eqb}
+use mathlib.Core.Path.{sym}
+use borrow.Author.Needs.{needs}
+use Rattle.inbound.proofs.input.frame_bytes.Statement.{statement}
+use Rattle.inbound.proofs.input.frame_bytes.Tie as tie
+use Rattle.inbound.proofs.input.frame_bytes.Reads as reads
+use Rattle.inbound.proofs.input.frame_bytes.Lts as lts
+
+-- src/input.rt:389:13
+enum-known-phase : tie.Need-enum-known-phase
+enum-known-phase c = search needs
+
+-- src/input.rt:392:13
+returns : tie.Need-returns
+returns c = simp (c .before .phase .given .1)
+
+-- src/input.rt:395:13
+enum-told : tie.Need-enum-told
+enum-told c = search needs
+
+-- src/input.rt:395:13
+returns-2 : tie.Need-returns-2
+returns-2 c = search needs
+
+-- src/input.rt:398:13
+enum-told-2 : tie.Need-enum-told-2
+enum-told-2 c = search needs
+
+-- src/input.rt:398:13
+returns-3 : tie.Need-returns-3
+returns-3 c = search needs
+
+-- src/input.rt:401:13
+enum-told-3 : tie.Need-enum-told-3
+enum-told-3 c = search needs
+
+-- src/input.rt:401:13
+returns-4 : tie.Need-returns-4
+returns-4 c = search needs
+
+pub frame-bytes-spec : {M : Type 1} → statement M
+frame-bytes-spec =
+    tie.close
+    (tie.spec
+    enum-known-phase
+    returns
+    enum-told
+    returns-2
+    enum-told-2
+    returns-3
+    enum-told-3
+    returns-4)

@@ -1,0 +1,60 @@
+use Rattle.inbound.specs.Rounds.{openRound}
+use borrow.Author.Tests.{le-leb, lt-leb, lt-ltb, le-ltb, eq-eqb, ne-eqb}
+use mathlib.Core.Path.{sym}
+use borrow.Author.Needs.{needs}
+use Rattle.inbound.proofs.rounds.open_round.Statement.{statement}
+use Rattle.inbound.proofs.rounds.open_round.Tie as tie
+use Rattle.inbound.proofs.rounds.open_round.Reads as reads
+use Rattle.inbound.proofs.rounds.open_round.Lts as lts
+use Rattle.budget.proofs.UpgradeBudget.may_begin.Reads as may-begin-reads
+use Rattle.inbound.proofs.rounds.is_live.Reads as is-live-reads
+use Rattle.inbound.proofs.rounds.no_round.Reads as no-round-reads
+use Rattle.inbound.proofs.rounds.open_stream.Reads as open-stream-reads
+
+-- src/rounds.rt:69:8
+is-live-requires : tie.Need-is-live-requires
+is-live-requires c κs = search needs
+
+-- src/rounds.rt:70:12
+may-begin-requires : tie.Need-may-begin-requires
+may-begin-requires c κs = search needs
+
+-- src/rounds.rt:71:13
+open-stream-requires : tie.Need-open-stream-requires
+open-stream-requires c κs = search needs
+
+-- src/rounds.rt:71:13
+returns : tie.Need-returns
+unfolding openRound
+returns c = simp (sym (c .open-stream .ensures), c .before .if2 .taken, sym (c .before .before .may-begin .ensures), c .before .before .before .if1 .taken, sym (c .before .before .before .before .is-live .ensures))
+
+-- src/rounds.rt:73:9
+no-round-requires : tie.Need-no-round-requires
+no-round-requires c κs = search needs
+
+-- src/rounds.rt:73:9
+returns-2 : tie.Need-returns-2
+unfolding openRound
+returns-2 c = simp (sym (c .no-round .ensures), c .before .if2 .left, sym (c .before .before .may-begin .ensures), c .before .before .before .if1 .taken, sym (c .before .before .before .before .is-live .ensures))
+
+-- src/rounds.rt:75:5
+no-round-requires-2 : tie.Need-no-round-requires-2
+no-round-requires-2 c κs = search needs
+
+-- src/rounds.rt:64:1
+returns-3 : tie.Need-returns-3
+unfolding openRound
+returns-3 c = simp (sym (c .no-round2 .ensures), c .before .if1 .left, sym (c .before .before .is-live .ensures))
+
+pub open-round-spec : {M : Type 1} → statement M
+open-round-spec =
+    tie.close
+    (tie.spec
+    is-live-requires
+    may-begin-requires
+    open-stream-requires
+    returns
+    no-round-requires
+    returns-2
+    no-round-requires-2
+    returns-3)

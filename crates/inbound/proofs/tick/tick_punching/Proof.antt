@@ -1,0 +1,73 @@
+use Rattle.inbound.specs.Ticks.{tickPunching}
+use borrow.Author.Tests.{le-leb, lt-leb, lt-ltb, le-ltb, eq-eqb, ne-eqb}
+use mathlib.Core.Path.{sym}
+use borrow.Author.Needs.{needs}
+use Rattle.inbound.proofs.tick.tick_punching.Statement.{statement}
+use Rattle.inbound.proofs.tick.tick_punching.Tie as tie
+use Rattle.inbound.proofs.tick.tick_punching.Reads as reads
+use Rattle.inbound.proofs.tick.tick_punching.Lts as lts
+use Rattle.inbound.proofs.decision.burst.Reads as burst-reads
+use Rattle.inbound.proofs.decision.decided.Reads as decided-reads
+use Rattle.inbound.proofs.decision.quiet.Reads as quiet-reads
+use Rattle.inbound.proofs.rounds.open_round.Reads as open-round-reads
+use Rattle.inbound.proofs.state.finish.Reads as finish-reads
+use Rattle.inbound.proofs.state.with_phase.Reads as with-phase-reads
+use Rattle.schedule.proofs.BlastSchedule.newly_due.Reads as newly-due-reads
+
+-- src/tick.rt:71:32
+finish-requires : tie.Need-finish-requires
+finish-requires c κs = search needs
+
+-- src/tick.rt:71:9
+quiet-requires : tie.Need-quiet-requires
+quiet-requires c κs = search needs
+
+-- src/tick.rt:71:9
+returns : tie.Need-returns
+unfolding tickPunching
+returns c = simp (sym (c .quiet .ensures), sym (c .before .finish .ensures), le-ltb _ _ (c .before .before .if1 .taken), le-leb _ _ (c .before .before .if1 .taken))
+
+-- src/tick.rt:75:9
+newly-due-requires : tie.Need-newly-due-requires
+newly-due-requires c κs = search needs
+
+-- src/tick.rt:76:9
+burst-requires : tie.Need-burst-requires
+burst-requires c κs = search needs
+
+-- src/tick.rt:84:13
+with-phase-requires : tie.Need-with-phase-requires
+with-phase-requires c κs = search needs
+
+-- src/tick.rt:83:9
+decided-requires : tie.Need-decided-requires
+decided-requires c κs = search needs
+
+-- src/tick.rt:83:9
+returns-2 : tie.Need-returns-2
+unfolding tickPunching
+returns-2 c = simp (sym (c .decided .ensures), sym (c .before .with-phase .ensures), lt-ltb _ _ (c .before .before .if2 .taken), lt-leb _ _ (c .before .before .if2 .taken), sym (c .before .before .before .before .burst .ensures), sym (c .before .before .before .before .before .newly-due .ensures), lt-ltb _ _ (c .before .before .before .before .before .before .before .if1 .left), lt-leb _ _ (c .before .before .before .before .before .before .before .if1 .left))
+
+-- src/tick.rt:90:5
+open-round-requires : tie.Need-open-round-requires
+open-round-requires c κs = search needs
+
+-- src/tick.rt:66:1
+returns-3 : tie.Need-returns-3
+unfolding tickPunching
+returns-3 c = simp (sym (c .open-round .ensures), le-ltb _ _ (c .before .if2 .left), le-leb _ _ (c .before .if2 .left), sym (c .before .before .before .burst .ensures), sym (c .before .before .before .before .newly-due .ensures), lt-ltb _ _ (c .before .before .before .before .before .before .if1 .left), lt-leb _ _ (c .before .before .before .before .before .before .if1 .left))
+
+pub tick-punching-spec : {M : Type 1} → statement M
+tick-punching-spec =
+    tie.close
+    (tie.spec
+    finish-requires
+    quiet-requires
+    returns
+    newly-due-requires
+    burst-requires
+    with-phase-requires
+    decided-requires
+    returns-2
+    open-round-requires
+    returns-3)
