@@ -7,8 +7,8 @@ use Rattle.text.specs.Words.{ascii}
 use Rattle.text.specs.Decimal.{decimal}
 use Rattle.path.specs.declared.Claim.{Claim}
 use Rattle.vocabulary.specs.declared.Deadline.{Deadline}
-use Rattle.inbound.specs.declared.state.Core.{Core}
-use Rattle.inbound.specs.Questions.{promotesOf, claimOf, nextDeadlineAt}
+use Rattle.circuit.specs.declared.state.Core.{Core}
+use Rattle.circuit.specs.Questions.{promotesOf, claimOf, nextDeadlineAt}
 use Rattle.journal_turns.specs.Turns.{Journal, lineTurn}
 use Rattle.circuit_questions.specs.declared.Answers.{Answers}
 use Rattle.path.specs.declared.Claim.the-variants as claim

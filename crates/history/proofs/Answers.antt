@@ -16,15 +16,16 @@ use Rattle.frames.specs.declared.Framed.{Framed}
 use Rattle.frames.specs.Sent.{ownConnect}
 use Rattle.ledger.specs.Ledger.{PathLedger}
 use Rattle.vocabulary.specs.declared.Settings.{Settings}
-use Rattle.inbound.specs.declared.circuit.InboundCircuit.{InboundCircuit}
-use Rattle.inbound.specs.declared.state.Phase.{Phase}
+use Rattle.inbound.specs.declared.InboundCircuit.{InboundCircuit}
+use Rattle.circuit.specs.declared.state.Phase.{Phase}
 use Rattle.vocabulary.specs.declared.Outcome.{Outcome}
 use Rattle.vocabulary.specs.declared.Outcome.the-variants.{Accepted, Refused}
-use Rattle.inbound.specs.declared.state.Core.{Core}
-use Rattle.inbound.specs.declared.decision.Decision.{Decision}
-use Rattle.inbound.specs.Decisions.{silence, eventOf, decidedOf, quietOf, refusedOf}
-use Rattle.inbound.specs.Refusals.{checkOf}
-use Rattle.inbound.specs.Calls.{unless, upIn, tickIn, inputIn, wroteOf, downOf}
+use Rattle.circuit.specs.declared.state.Core.{Core}
+use Rattle.circuit.specs.declared.decision.Decision.{Decision}
+use Rattle.circuit.specs.Decisions.{silence, eventOf, decidedOf, quietOf, refusedOf}
+use Rattle.circuit.specs.Refusals.{checkOf}
+use Rattle.circuit.specs.Calls.{unless, wroteOf, downOf}
+use Rattle.lent.specs.Calls.{upIn, tickIn, inputIn}
 use Rattle.inbound.specs.Circuits.{answerOf, upAnswer, tickAnswer, inputAnswer, wroteAnswer, downAnswer}
 use Rattle.history.specs.Calls.{Call, up, input, tick, wrote, down, stepOf}
 use Rattle.history.specs.Book.{Book, fresh}

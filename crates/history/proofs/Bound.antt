@@ -24,9 +24,9 @@ use Rattle.vocabulary.specs.declared.Offer.{Offer}
 use Rattle.vocabulary.specs.declared.Offer.the-variants as offer
 use Rattle.vocabulary.specs.declared.StreamInput.{StreamInput}
 use Rattle.vocabulary.specs.declared.StreamInput.the-variants as i
-use Rattle.inbound.specs.declared.state.ConnectWrite.{ConnectWrite}
-use Rattle.inbound.specs.declared.state.ConnectWrite.the-variants.{Unsent, Held, Sent}
-use Rattle.inbound.specs.Brought.{Brought, unfinished, failed, connect}
+use Rattle.circuit.specs.declared.state.ConnectWrite.{ConnectWrite}
+use Rattle.circuit.specs.declared.state.ConnectWrite.the-variants.{Unsent, Held, Sent}
+use Rattle.lent.specs.Brought.{Brought, unfinished, failed, connect}
 use Rattle.history.specs.Heard.{heard}
 use Rattle.history.specs.Calls.{Call, up, input, tick, wrote, down, toEach, copies, refusals}
 use Rattle.history.specs.Book.{Window, Asking, Stage, handshaking, asking, within, over, Book, Who, fresh, current, windows, closed, isCircuit, begins, wanted, seen, tickIn, armed, upIn, isClosing, tripOf, opened, withCount, withConnect, replied, answeredBy, inputTo, inputIn, wroteTo, wroteIn, note, notes}

@@ -14,13 +14,13 @@ use Rattle.vocabulary.specs.declared.StreamInput.{StreamInput}
 use Rattle.vocabulary.specs.declared.StreamInput.the-variants as i
 use Rattle.vocabulary.specs.declared.Outcome.{Outcome}
 use Rattle.vocabulary.specs.declared.Outcome.the-variants.{Accepted, Refused}
-use Rattle.inbound.specs.declared.state.Phase.{Phase}
-use Rattle.inbound.specs.declared.state.ConnectWrite.{ConnectWrite}
-use Rattle.inbound.specs.declared.state.ConnectWrite.the-variants.{Unsent, Held, Sent}
-use Rattle.inbound.specs.declared.circuit.InboundCircuit.{InboundCircuit}
-use Rattle.inbound.specs.Inputs.{awaitsIn, awaits, frameBytes}
-use Rattle.inbound.specs.Inputs as inputs
-use Rattle.inbound.specs.Calls.{bufferAfter}
+use Rattle.circuit.specs.declared.state.Phase.{Phase}
+use Rattle.circuit.specs.declared.state.ConnectWrite.{ConnectWrite}
+use Rattle.circuit.specs.declared.state.ConnectWrite.the-variants.{Unsent, Held, Sent}
+use Rattle.inbound.specs.declared.InboundCircuit.{InboundCircuit}
+use Rattle.circuit.specs.Inputs.{awaitsIn, awaits, frameBytes}
+use Rattle.circuit.specs.Inputs as inputs
+use Rattle.lent.specs.Calls.{bufferAfter}
 use Rattle.inbound.specs.Circuits.{answerOf, inputAnswer, inputBuffer}
 use Rattle.history.specs.Calls.{Call, up, input, tick, wrote, down, isRefused, stepOf}
 use Rattle.history.specs.Book.{Stage, Book, fresh}

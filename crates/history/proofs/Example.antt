@@ -19,17 +19,18 @@ use Rattle.candidates.specs.Entries.{count, only}
 use Rattle.candidates.specs.Selection.{selected, own, once, bounded, room}
 use Rattle.rows.specs.Rows.{such}
 use Rattle.ledger.specs.Ledger.{emptyLedger, refusesPunches}
-use Rattle.inbound.specs.Decisions.{silence, eventOf, resetOf, burstOf, sendingOf, decidedOf, quietOf, refusedOf}
-use Rattle.inbound.specs.Brought.{broughtBy}
-use Rattle.inbound.specs.State.{inPhase, exchangingOf, punchingOf}
-use Rattle.inbound.specs.Rounds.{isLive, openRound}
-use Rattle.inbound.specs.Ticks.{tickPunching}
-use Rattle.inbound.specs.Refusals.{inUse, checkOf}
-use Rattle.inbound.specs.Ups.{announced, connectedOf, upAt}
-use Rattle.inbound.specs.Inputs.{closing, inExchange, writeOf, firstInput, roundTrip, windowOf, openWindow, exchangeInput}
-use Rattle.inbound.specs.Replies.{targetsFrom, peekedOf}
-use Rattle.inbound.specs.Carried.{opens, framedBy, connectAfter, targetsAfter}
-use Rattle.inbound.specs.Calls.{startedOf, begunOf, upIn, upOf, tickIn, tickOf, hearing, inputIn, inputOf}
+use Rattle.circuit.specs.Decisions.{silence, eventOf, resetOf, burstOf, sendingOf, decidedOf, quietOf, refusedOf}
+use Rattle.lent.specs.Brought.{broughtBy}
+use Rattle.circuit.specs.State.{inPhase, exchangingOf, punchingOf}
+use Rattle.circuit.specs.Rounds.{isLive, openRound}
+use Rattle.circuit.specs.Ticks.{tickPunching}
+use Rattle.circuit.specs.Refusals.{inUse, checkOf}
+use Rattle.circuit.specs.Ups.{announced, connectedOf, upAt}
+use Rattle.circuit.specs.Inputs.{closing, inExchange, writeOf, firstInput, roundTrip, windowOf, openWindow, exchangeInput}
+use Rattle.lent.specs.Replies.{targetsFrom, peekedOf}
+use Rattle.lent.specs.Carried.{opens, framedBy, connectAfter, targetsAfter}
+use Rattle.circuit.specs.Calls.{startedOf, begunOf}
+use Rattle.lent.specs.Calls.{upIn, upOf, tickIn, tickOf, hearing, inputIn, inputOf}
 use Rattle.inbound.specs.Circuits.{answerOf, newAnswer, upAnswer, tickAnswer, inputAnswer}
 use Rattle.schedule.specs.Readings.{counted}
 use Rattle.history.specs.Heard.{heard}

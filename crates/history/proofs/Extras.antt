@@ -17,31 +17,32 @@ use Rattle.candidates.specs.declared.Chosen.{Chosen}
 use Rattle.candidates.specs.Selection.{usual, selected}
 use Rattle.ledger.specs.Ledger.{PathLedger, refusesPunches}
 use Rattle.vocabulary.specs.declared.Settings.{Settings}
-use Rattle.inbound.specs.declared.circuit.InboundCircuit.{InboundCircuit}
-use Rattle.inbound.specs.declared.state.Phase.{Phase}
-use Rattle.inbound.specs.declared.state.Phase.the-variants.{Done}
+use Rattle.inbound.specs.declared.InboundCircuit.{InboundCircuit}
+use Rattle.circuit.specs.declared.state.Phase.{Phase}
+use Rattle.circuit.specs.declared.state.Phase.the-variants.{Done}
 use Rattle.vocabulary.specs.declared.Host.{Host}
 use Rattle.vocabulary.specs.declared.Offer.{Offer}
 use Rattle.vocabulary.specs.declared.Offer.the-variants as offer
 use Rattle.vocabulary.specs.declared.StreamInput.{StreamInput}
 use Rattle.vocabulary.specs.declared.StreamInput.the-variants as i
-use Rattle.inbound.specs.declared.state.ConnectWrite.{ConnectWrite}
-use Rattle.inbound.specs.declared.state.ConnectWrite.the-variants.{Unsent, Held, Sent}
+use Rattle.circuit.specs.declared.state.ConnectWrite.{ConnectWrite}
+use Rattle.circuit.specs.declared.state.ConnectWrite.the-variants.{Unsent, Held, Sent}
 use Rattle.vocabulary.specs.declared.Outcome.{Outcome}
 use Rattle.vocabulary.specs.declared.Outcome.the-variants.{Accepted, Refused}
-use Rattle.inbound.specs.declared.decision.Decision.{Decision}
-use Rattle.inbound.specs.declared.circuit.Answer.{Answer}
-use Rattle.inbound.specs.Decisions.{silence, eventOf, decidedOf, quietOf, refusedOf}
-use Rattle.inbound.specs.Carried.{targetsAfter}
-use Rattle.inbound.specs.Carried as carried
+use Rattle.circuit.specs.declared.decision.Decision.{Decision}
+use Rattle.inbound.specs.declared.Answer.{Answer}
+use Rattle.circuit.specs.Decisions.{silence, eventOf, decidedOf, quietOf, refusedOf}
+use Rattle.lent.specs.Carried.{targetsAfter}
+use Rattle.lent.specs.Carried as carried
 use Rattle.inbound.specs.Circuits.{answerOf, plainly, upAnswer, tickAnswer, inputAnswer, wroteAnswer, downAnswer}
-use Rattle.inbound.specs.Brought.{Brought, unfinished, failed, connect}
-use Rattle.inbound.specs.Refusals.{checkOf}
-use Rattle.inbound.specs.Ups.{establishedAt, connectedOf, tookOf, taking, upAt}
-use Rattle.inbound.specs.Inputs.{inputAt}
-use Rattle.inbound.specs.Ticks.{tickAt}
-use Rattle.inbound.specs.Calls.{unless, upIn, tickIn, peeked, hearing, inputIn, wroteAt, wroteOf, downOf}
-use Rattle.inbound.specs.State.{doneOf, isDone}
+use Rattle.lent.specs.Brought.{Brought, unfinished, failed, connect}
+use Rattle.circuit.specs.Refusals.{checkOf}
+use Rattle.circuit.specs.Ups.{establishedAt, connectedOf, tookOf, taking, upAt}
+use Rattle.circuit.specs.Inputs.{inputAt}
+use Rattle.circuit.specs.Ticks.{tickAt}
+use Rattle.circuit.specs.Calls.{unless, wroteAt, wroteOf, downOf}
+use Rattle.lent.specs.Calls.{upIn, tickIn, peeked, hearing, inputIn}
+use Rattle.circuit.specs.State.{doneOf, isDone}
 use Rattle.history.specs.Heard.{heard}
 use Rattle.history.specs.Calls.{Call, up, tick, wrote, down, stepOf}
 use Rattle.history.specs.Calls as call

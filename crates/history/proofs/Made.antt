@@ -14,13 +14,13 @@ use Rattle.frames.specs.Sent.{ownConnect}
 use Rattle.ledger.specs.Ledger.{PathLedger, refusesPunches}
 use Rattle.vocabulary.specs.declared.Host.{Host}
 use Rattle.vocabulary.specs.declared.StreamInput.{StreamInput}
-use Rattle.inbound.specs.declared.decision.Decision.{Decision}
-use Rattle.inbound.specs.declared.decision.Fate.{Fate}
-use Rattle.inbound.specs.declared.decision.Fate.the-variants.{Kept, Removed, Opened}
-use Rattle.inbound.specs.declared.circuit.InboundCircuit.{InboundCircuit}
-use Rattle.inbound.specs.declared.circuit.Answer.{Answer}
-use Rattle.inbound.specs.Carried.{messageOf, opens, connectAfter, withConnect, withCore, framedBy, targetsAfter}
-use Rattle.inbound.specs.Calls.{upIn, upOf, tickIn, tickOf, peeked, inputIn, inputOf}
+use Rattle.circuit.specs.declared.decision.Decision.{Decision}
+use Rattle.circuit.specs.declared.decision.Fate.{Fate}
+use Rattle.circuit.specs.declared.decision.Fate.the-variants.{Kept, Removed, Opened}
+use Rattle.inbound.specs.declared.InboundCircuit.{InboundCircuit}
+use Rattle.inbound.specs.declared.Answer.{Answer}
+use Rattle.lent.specs.Carried.{messageOf, opens, connectAfter, withConnect, withCore, framedBy, targetsAfter}
+use Rattle.lent.specs.Calls.{upIn, upOf, tickIn, tickOf, peeked, inputIn, inputOf}
 use Rattle.inbound.specs.Circuits.{answerOf, upAnswer, tickAnswer, inputAnswer}
 
 -- the bytes of a circuit, with their numbers

@@ -32,29 +32,30 @@ use Rattle.vocabulary.specs.declared.Effect.{Effect}
 use Rattle.vocabulary.specs.declared.Effect.the-variants as e
 use Rattle.vocabulary.specs.declared.Outcome.{Outcome}
 use Rattle.vocabulary.specs.declared.Outcome.the-variants.{Accepted, Refused}
-use Rattle.inbound.specs.declared.state.Core.{Core}
-use Rattle.inbound.specs.declared.state.Phase.{Phase}
-use Rattle.inbound.specs.declared.state.Phase.the-variants.{Handshaking, Exchange, Punching, Done}
-use Rattle.inbound.specs.declared.state.ConnectWrite.{ConnectWrite}
-use Rattle.inbound.specs.declared.state.ConnectWrite.the-variants.{Unsent, Held, Sent}
-use Rattle.inbound.specs.declared.decision.Said.{Said}
-use Rattle.inbound.specs.declared.decision.Fate.the-variants.{Kept}
-use Rattle.inbound.specs.declared.decision.Message.the-variants.{Connect}
-use Rattle.inbound.specs.declared.decision.Decision.{Decision}
-use Rattle.inbound.specs.declared.input.Running.{Running}
-use Rattle.inbound.specs.declared.input.Heard.{Heard}
-use Rattle.inbound.specs.declared.input.Heard.the-variants as heard
-use Rattle.inbound.specs.declared.circuit.InboundCircuit.{InboundCircuit}
-use Rattle.inbound.specs.State.{inPhase, doneOf, exchangingOf, punchingOf, isDone}
-use Rattle.inbound.specs.Decisions.{silence, eventOf, resetOf, sendingOf, decidedOf, quietOf, refusedOf}
-use Rattle.inbound.specs.Rounds.{isLive, noRound, openStream, openRound, failRound}
-use Rattle.inbound.specs.Ticks.{tickHandshaking, stopped, tickExchange, dueBurst, tickPunching, tickAt}
-use Rattle.inbound.specs.Ups.{upgradedOf, announced, establishedAt, connectedOf, upAt}
-use Rattle.inbound.specs.Inputs.{closing, inExchange, firstInput, openWindow, replied, laterInput, timelyInput, inTime, exchangeInput, inputAt}
-use Rattle.inbound.specs.Refusals.{checkOf}
-use Rattle.inbound.specs.Calls.{begunOf, startedOf, unless, upIn, tickIn, hearing, inputIn, wroteTo, wroteAt, wroteOf, downOf}
+use Rattle.circuit.specs.declared.state.Core.{Core}
+use Rattle.circuit.specs.declared.state.Phase.{Phase}
+use Rattle.circuit.specs.declared.state.Phase.the-variants.{Handshaking, Exchange, Punching, Done}
+use Rattle.circuit.specs.declared.state.ConnectWrite.{ConnectWrite}
+use Rattle.circuit.specs.declared.state.ConnectWrite.the-variants.{Unsent, Held, Sent}
+use Rattle.circuit.specs.declared.decision.Said.{Said}
+use Rattle.circuit.specs.declared.decision.Fate.the-variants.{Kept}
+use Rattle.circuit.specs.declared.decision.Message.the-variants.{Connect}
+use Rattle.circuit.specs.declared.decision.Decision.{Decision}
+use Rattle.circuit.specs.declared.input.Running.{Running}
+use Rattle.circuit.specs.declared.input.Heard.{Heard}
+use Rattle.circuit.specs.declared.input.Heard.the-variants as heard
+use Rattle.inbound.specs.declared.InboundCircuit.{InboundCircuit}
+use Rattle.circuit.specs.State.{inPhase, doneOf, exchangingOf, punchingOf, isDone}
+use Rattle.circuit.specs.Decisions.{silence, eventOf, resetOf, sendingOf, decidedOf, quietOf, refusedOf}
+use Rattle.circuit.specs.Rounds.{isLive, noRound, openStream, openRound, failRound}
+use Rattle.circuit.specs.Ticks.{tickHandshaking, stopped, tickExchange, dueBurst, tickPunching, tickAt}
+use Rattle.circuit.specs.Ups.{upgradedOf, announced, establishedAt, connectedOf, upAt}
+use Rattle.circuit.specs.Inputs.{closing, inExchange, firstInput, openWindow, replied, laterInput, timelyInput, inTime, exchangeInput, inputAt}
+use Rattle.circuit.specs.Refusals.{checkOf}
+use Rattle.circuit.specs.Calls.{begunOf, startedOf, unless, wroteTo, wroteAt, wroteOf, downOf}
+use Rattle.lent.specs.Calls.{upIn, tickIn, hearing, inputIn}
 use Rattle.inbound.specs.Circuits.{answerOf, newAnswer, wroteAnswer, downAnswer}
-use Rattle.inbound.specs.Questions.{promoted}
+use Rattle.circuit.specs.Questions.{promoted}
 use Rattle.history.specs.Calls.{Call, up, input, tick, wrote, down, isRefused, stepOf}
 use Rattle.history.specs.Book.{Stage, Book}
 use Rattle.history.specs.Refuses.{refusal, turned, next}

@@ -19,12 +19,12 @@ use Rattle.schedule.proofs.Instants.{instants-some}
 use Rattle.candidates.specs.declared.Chosen.{Chosen}
 use Rattle.frames.specs.declared.Framed.{Framed}
 use Rattle.vocabulary.specs.declared.Settings.{Settings}
-use Rattle.inbound.specs.declared.circuit.InboundCircuit.{InboundCircuit}
-use Rattle.inbound.specs.declared.state.Core.{Core}
-use Rattle.inbound.specs.declared.state.Phase.{Phase}
+use Rattle.inbound.specs.declared.InboundCircuit.{InboundCircuit}
+use Rattle.circuit.specs.declared.state.Core.{Core}
+use Rattle.circuit.specs.declared.state.Phase.{Phase}
 use Rattle.vocabulary.specs.declared.Deadline.the-variants.{At}
-use Rattle.inbound.specs.State.{isDone}
-use Rattle.inbound.specs.Questions.{nextDeadlineAt, claimOf, promoted, promotesOf}
+use Rattle.circuit.specs.State.{isDone}
+use Rattle.circuit.specs.Questions.{nextDeadlineAt, claimOf, promoted, promotesOf}
 use Rattle.history.specs.Calls.{Call, stepOf}
 use Rattle.history.specs.Book.{Window, Stage, Book, fresh}
 use Rattle.history.specs.Demand3.{begun}

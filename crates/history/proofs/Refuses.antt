@@ -21,17 +21,17 @@ use Rattle.candidates.specs.declared.Chosen.{Chosen}
 use Rattle.frames.specs.declared.Framed.{Framed}
 use Rattle.ledger.specs.Ledger.{refusesPunches}
 use Rattle.vocabulary.specs.declared.Settings.{Settings}
-use Rattle.inbound.specs.declared.circuit.InboundCircuit.{InboundCircuit}
-use Rattle.inbound.specs.declared.state.Phase.{Phase}
+use Rattle.inbound.specs.declared.InboundCircuit.{InboundCircuit}
+use Rattle.circuit.specs.declared.state.Phase.{Phase}
 use Rattle.vocabulary.specs.declared.Host.{Host}
 use Rattle.vocabulary.specs.declared.Offer.{Offer}
 use Rattle.vocabulary.specs.declared.StreamInput.{StreamInput}
 use Rattle.vocabulary.specs.declared.Outcome.{Outcome}
 use Rattle.vocabulary.specs.declared.Outcome.the-variants.{Accepted, Refused}
-use Rattle.inbound.specs.declared.state.Phase.the-variants.{Handshaking, Done}
-use Rattle.inbound.specs.declared.decision.Decision.{Decision}
-use Rattle.inbound.specs.Decisions.{decidedOf, quietOf, refusedOf}
-use Rattle.inbound.specs.Calls.{begunOf, startedOf}
+use Rattle.circuit.specs.declared.state.Phase.the-variants.{Handshaking, Done}
+use Rattle.circuit.specs.declared.decision.Decision.{Decision}
+use Rattle.circuit.specs.Decisions.{decidedOf, quietOf, refusedOf}
+use Rattle.circuit.specs.Calls.{begunOf, startedOf}
 use Rattle.inbound.specs.Circuits.{answerOf, newAnswer}
 use Rattle.history.specs.Calls.{Call, up, input, tick, wrote, down, answerTo, isRefused, stepOf, refusals}
 use Rattle.history.specs.Numbers.{offersPair, opensWindow, refusedWith, numberIn, answeredWith}

@@ -19,16 +19,17 @@ use Rattle.frames.specs.declared.Framed.{Framed}
 use Rattle.frames.specs.Sent as frame
 use Rattle.ledger.specs.Ledger.{refusesPunches}
 use Rattle.vocabulary.specs.declared.Settings.{Settings}
-use Rattle.inbound.specs.declared.circuit.InboundCircuit.{InboundCircuit}
-use Rattle.inbound.specs.declared.state.Phase.{Phase}
-use Rattle.inbound.specs.declared.state.Phase.the-variants.{Handshaking, Done}
-use Rattle.inbound.specs.declared.state.Core.{Core}
-use Rattle.inbound.specs.declared.decision.Decision.{Decision}
+use Rattle.inbound.specs.declared.InboundCircuit.{InboundCircuit}
+use Rattle.circuit.specs.declared.state.Phase.{Phase}
+use Rattle.circuit.specs.declared.state.Phase.the-variants.{Handshaking, Done}
+use Rattle.circuit.specs.declared.state.Core.{Core}
+use Rattle.circuit.specs.declared.decision.Decision.{Decision}
 use Rattle.vocabulary.specs.declared.Offer.{Offer}
 use Rattle.vocabulary.specs.declared.Outcome.the-variants.{Accepted, Refused}
-use Rattle.inbound.specs.Decisions.{decidedOf, quietOf, refusedOf}
-use Rattle.inbound.specs.Refusals.{inUse, checkOf}
-use Rattle.inbound.specs.Calls.{unless, begunOf, startedOf, upIn, tickIn, inputIn, wroteOf, downOf}
+use Rattle.circuit.specs.Decisions.{decidedOf, quietOf, refusedOf}
+use Rattle.circuit.specs.Refusals.{inUse, checkOf}
+use Rattle.circuit.specs.Calls.{unless, begunOf, startedOf, wroteOf, downOf}
+use Rattle.lent.specs.Calls.{upIn, tickIn, inputIn}
 use Rattle.inbound.specs.Circuits.{answerOf, newAnswer, wroteAnswer, downAnswer}
 use Rattle.history.specs.Calls.{Call, up, input, tick, wrote, down, answered, stepOf, datagrams, refusals}
 use Rattle.history.specs.Book.{Window, handshaking, over, Book, fresh, current, windows, note, notes}

@@ -23,27 +23,27 @@ use Rattle.schedule.proofs.Readings.{tick-times, below-fits}
 use Rattle.candidates.specs.declared.Chosen.{Chosen}
 use Rattle.frames.specs.declared.Framed.{Framed}
 use Rattle.ledger.specs.Ledger.{PathLedger, refusesPunches, expectPunches}
-use Rattle.inbound.specs.declared.state.Core.{Core}
-use Rattle.inbound.specs.declared.state.Phase.{Phase}
-use Rattle.inbound.specs.declared.state.Phase.the-variants.{Handshaking, Exchange, Punching, Done}
-use Rattle.inbound.specs.declared.state.ConnectWrite.{ConnectWrite}
+use Rattle.circuit.specs.declared.state.Core.{Core}
+use Rattle.circuit.specs.declared.state.Phase.{Phase}
+use Rattle.circuit.specs.declared.state.Phase.the-variants.{Handshaking, Exchange, Punching, Done}
+use Rattle.circuit.specs.declared.state.ConnectWrite.{ConnectWrite}
 use Rattle.vocabulary.specs.declared.Offer.{Offer}
 use Rattle.vocabulary.specs.declared.Offer.the-variants as offer
 use Rattle.vocabulary.specs.declared.Host.{Host}
-use Rattle.inbound.specs.declared.decision.Said.{Said}
+use Rattle.circuit.specs.declared.decision.Said.{Said}
 use Rattle.vocabulary.specs.declared.Effect.{Effect}
 use Rattle.vocabulary.specs.declared.Effect.the-variants.{Nothing, Path, Burst, Upgrade, Close, Reset, Open}
-use Rattle.inbound.specs.declared.decision.Decision.{Decision}
-use Rattle.inbound.specs.declared.circuit.Answer.{Answer}
-use Rattle.inbound.specs.declared.decision.Fate.the-variants.{Kept, Removed, Opened}
-use Rattle.inbound.specs.declared.decision.Message.the-variants as message
-use Rattle.inbound.specs.Decisions.{silence, eventOf, resetOf, burstOf, decidedOf, quietOf, refusedOf}
-use Rattle.inbound.specs.Carried.{messageOf, targetsAfter, ledgerAfter}
-use Rattle.inbound.specs.Carried as carried
-use Rattle.inbound.specs.State.{inPhase, doneOf, exchangingOf}
-use Rattle.inbound.specs.Rounds.{isLive, noRound, openStream, openRound, failRound}
-use Rattle.inbound.specs.Ticks.{tickHandshaking, stopped, tickExchange, dueBurst, tickPunching, tickAt}
-use Rattle.inbound.specs.Ups.{upgradedOf, announced, establishedAt, connectedOf, tookOf, taking, upAt}
+use Rattle.circuit.specs.declared.decision.Decision.{Decision}
+use Rattle.inbound.specs.declared.Answer.{Answer}
+use Rattle.circuit.specs.declared.decision.Fate.the-variants.{Kept, Removed, Opened}
+use Rattle.circuit.specs.declared.decision.Message.the-variants as message
+use Rattle.circuit.specs.Decisions.{silence, eventOf, resetOf, burstOf, decidedOf, quietOf, refusedOf}
+use Rattle.lent.specs.Carried.{messageOf, targetsAfter, ledgerAfter}
+use Rattle.lent.specs.Carried as carried
+use Rattle.circuit.specs.State.{inPhase, doneOf, exchangingOf}
+use Rattle.circuit.specs.Rounds.{isLive, noRound, openStream, openRound, failRound}
+use Rattle.circuit.specs.Ticks.{tickHandshaking, stopped, tickExchange, dueBurst, tickPunching, tickAt}
+use Rattle.circuit.specs.Ups.{upgradedOf, announced, establishedAt, connectedOf, tookOf, taking, upAt}
 use Rattle.history.specs.Calls.{isRefused}
 use Rattle.history.specs.Book.{Window, Stage, handshaking, asking, within, Book, armed}
 use Rattle.history.specs.Tells.{Says, path, burst, upgrade, close, reset, opens, removed, Told, only, nothing, opening, wants, isNone, blast, newly, tickTells, upTells}

@@ -25,29 +25,29 @@ use Rattle.frames.specs.declared.Framed.{Framed}
 use Rattle.frames.specs.Sent.{syncFrame}
 use Rattle.ledger.specs.Ledger.{PathLedger, refusesPunches}
 use Rattle.vocabulary.specs.declared.Settings.{Settings}
-use Rattle.inbound.specs.declared.state.Core.{Core}
-use Rattle.inbound.specs.declared.state.Phase.{Phase}
-use Rattle.inbound.specs.declared.state.Phase.the-variants.{Exchange}
-use Rattle.inbound.specs.declared.state.ConnectWrite.{ConnectWrite}
-use Rattle.inbound.specs.declared.state.ConnectWrite.the-variants.{Unsent, Held, Sent}
+use Rattle.circuit.specs.declared.state.Core.{Core}
+use Rattle.circuit.specs.declared.state.Phase.{Phase}
+use Rattle.circuit.specs.declared.state.Phase.the-variants.{Exchange}
+use Rattle.circuit.specs.declared.state.ConnectWrite.{ConnectWrite}
+use Rattle.circuit.specs.declared.state.ConnectWrite.the-variants.{Unsent, Held, Sent}
 use Rattle.vocabulary.specs.declared.StreamInput.{StreamInput}
 use Rattle.vocabulary.specs.declared.StreamInput.the-variants as i
 use Rattle.vocabulary.specs.declared.Host.{Host}
-use Rattle.inbound.specs.declared.decision.Said.{Said}
-use Rattle.inbound.specs.declared.input.Running.{Running}
+use Rattle.circuit.specs.declared.decision.Said.{Said}
+use Rattle.circuit.specs.declared.input.Running.{Running}
 use Rattle.vocabulary.specs.declared.Effect.the-variants.{Nothing, Burst}
-use Rattle.inbound.specs.Decisions.{silence, eventOf, resetOf, burstOf, sendingOf, decidedOf, quietOf, refusedOf}
-use Rattle.inbound.specs.declared.decision.Fate.the-variants.{Kept}
-use Rattle.inbound.specs.declared.decision.Message.the-variants.{Connect, Sync}
-use Rattle.inbound.specs.declared.reply.Peeked.{Peeked}
-use Rattle.inbound.specs.Carried.{messageOf}
-use Rattle.inbound.specs.Calls.{peeked, hearing}
-use Rattle.inbound.specs.Brought.{Brought, unfinished, failed, connect, broughtBy}
-use Rattle.inbound.specs.Rounds.{failRound}
-use Rattle.inbound.specs.Ticks.{tickExchange}
-use Rattle.inbound.specs.Inputs.{closing, inExchange, writeOf, firstInput, openWindow, replied, laterInput, timelyInput, inTime, exchangeInput}
-use Rattle.inbound.specs.State.{inPhase, punchingOf}
-use Rattle.inbound.specs.Replies.{targetsFrom, peekedOf}
+use Rattle.circuit.specs.Decisions.{silence, eventOf, resetOf, burstOf, sendingOf, decidedOf, quietOf, refusedOf}
+use Rattle.circuit.specs.declared.decision.Fate.the-variants.{Kept}
+use Rattle.circuit.specs.declared.decision.Message.the-variants.{Connect, Sync}
+use Rattle.lent.specs.declared.reply.Peeked.{Peeked}
+use Rattle.lent.specs.Carried.{messageOf}
+use Rattle.lent.specs.Calls.{peeked, hearing}
+use Rattle.lent.specs.Brought.{Brought, unfinished, failed, connect, broughtBy}
+use Rattle.circuit.specs.Rounds.{failRound}
+use Rattle.circuit.specs.Ticks.{tickExchange}
+use Rattle.circuit.specs.Inputs.{closing, inExchange, writeOf, firstInput, openWindow, replied, laterInput, timelyInput, inTime, exchangeInput}
+use Rattle.circuit.specs.State.{inPhase, punchingOf}
+use Rattle.lent.specs.Replies.{targetsFrom, peekedOf}
 use Rattle.history.specs.Book.{Window, Asking, Stage, asking, Book, isClosing, tripOf, opened}
 use Rattle.history.specs.Tells.{Says, burst, send, reset, only, nothing, wants, isNone, blast, tickTells, sync, repliedTells, laterTells, timelyTells, inputTells}
 use Rattle.history.specs.Tells as told

@@ -12,13 +12,13 @@ use Rattle.budget.specs.declared.UpgradeBudget.{UpgradeBudget}
 use Rattle.candidates.specs.declared.Chosen.{Chosen}
 use Rattle.frames.specs.declared.Framed.{Framed}
 use Rattle.ledger.specs.Ledger.{refusesPunches}
-use Rattle.inbound.specs.declared.state.Core.{Core}
-use Rattle.inbound.specs.declared.state.Phase.{Phase}
-use Rattle.inbound.specs.declared.decision.Decision.{Decision}
-use Rattle.inbound.specs.declared.circuit.InboundCircuit.{InboundCircuit}
-use Rattle.inbound.specs.Decisions.{decidedOf, quietOf, refusedOf}
-use Rattle.inbound.specs.Ups.{tookOf}
-use Rattle.inbound.specs.Calls.{wroteOf, downOf}
+use Rattle.circuit.specs.declared.state.Core.{Core}
+use Rattle.circuit.specs.declared.state.Phase.{Phase}
+use Rattle.circuit.specs.declared.decision.Decision.{Decision}
+use Rattle.inbound.specs.declared.InboundCircuit.{InboundCircuit}
+use Rattle.circuit.specs.Decisions.{decidedOf, quietOf, refusedOf}
+use Rattle.circuit.specs.Ups.{tookOf}
+use Rattle.circuit.specs.Calls.{wroteOf, downOf}
 use Rattle.inbound.specs.Circuits.{answerOf, wroteAnswer, downAnswer}
 use Rattle.history.specs.Calls.{Call, up, input, tick, wrote, down, answerTo, isRefused, stepOf}
 use Rattle.history.specs.Book.{Stage, Book, fresh}

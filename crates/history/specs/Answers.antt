@@ -17,11 +17,11 @@ use Rattle.candidates.specs.Selection.{usual, own}
 use Rattle.frames.specs.declared.Framed.{Framed}
 use Rattle.ledger.specs.Ledger.{PathLedger, refusesPunches, endPunches, expectPunches}
 use Rattle.vocabulary.specs.declared.Settings.{Settings}
-use Rattle.inbound.specs.declared.circuit.InboundCircuit.{InboundCircuit}
+use Rattle.inbound.specs.declared.InboundCircuit.{InboundCircuit}
 use Rattle.vocabulary.specs.declared.Effect.{Effect}
 use Rattle.vocabulary.specs.declared.Effect.the-variants.{Nothing, Path, Burst, Upgrade, Close, Send, Reset, Open}
-use Rattle.inbound.specs.declared.circuit.Answer.{Answer}
-use Rattle.inbound.specs.declared.state.Phase.the-variants.{Handshaking, Done}
+use Rattle.inbound.specs.declared.Answer.{Answer}
+use Rattle.circuit.specs.declared.state.Phase.the-variants.{Handshaking, Done}
 use Rattle.frames.specs.Sent.{ownConnect}
 use Rattle.inbound.specs.Circuits.{newAnswer, inputBuffer, ledgerBehind}
 use Rattle.history.specs.Calls.{Call, up, input, tick, wrote, down, answerTo, targetsOf, stepOf, refusals}

@@ -20,9 +20,9 @@ use Rattle.vocabulary.specs.declared.Offer.{Offer}
 use Rattle.vocabulary.specs.declared.Offer.the-variants as offer
 use Rattle.vocabulary.specs.declared.StreamInput.{StreamInput}
 use Rattle.vocabulary.specs.declared.StreamInput.the-variants as i
-use Rattle.inbound.specs.declared.state.ConnectWrite.{ConnectWrite}
-use Rattle.inbound.specs.declared.state.ConnectWrite.the-variants.{Unsent, Held, Sent}
-use Rattle.inbound.specs.Brought.{Brought, unfinished, failed, connect}
+use Rattle.circuit.specs.declared.state.ConnectWrite.{ConnectWrite}
+use Rattle.circuit.specs.declared.state.ConnectWrite.the-variants.{Unsent, Held, Sent}
+use Rattle.lent.specs.Brought.{Brought, unfinished, failed, connect}
 use Rattle.wire.specs.Lists.{entries}
 use Rattle.message.specs.Encoding.{frameBytes}
 use Rattle.message.specs.declared.Kind.the-variants.{Connect}

@@ -7,7 +7,7 @@ use Rattle.ids.specs.declared.ConnectionId.{ConnectionId}
 use Rattle.ids.specs.declared.StreamId.{StreamId}
 use Rattle.ids.specs.declared.PeerId.{PeerId}
 use Rattle.ledger.specs.Ledger.{emptyLedger}
-use Rattle.inbound.specs.declared.circuit.InboundCircuit.{InboundCircuit}
+use Rattle.inbound.specs.declared.InboundCircuit.{InboundCircuit}
 use Rattle.vocabulary.specs.declared.Settings.{Settings}
 use Rattle.vocabulary.specs.declared.Host.{Host}
 use Rattle.vocabulary.specs.declared.Live.the-variants.{On}

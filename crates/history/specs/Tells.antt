@@ -16,9 +16,9 @@ use Rattle.vocabulary.specs.declared.Offer.{Offer}
 use Rattle.vocabulary.specs.declared.Offer.the-variants as offer
 use Rattle.vocabulary.specs.declared.StreamInput.{StreamInput}
 use Rattle.vocabulary.specs.declared.StreamInput.the-variants as i
-use Rattle.inbound.specs.declared.state.ConnectWrite.{ConnectWrite}
-use Rattle.inbound.specs.declared.state.ConnectWrite.the-variants.{Unsent, Held, Sent}
-use Rattle.inbound.specs.Brought.{Brought, unfinished, failed, connect}
+use Rattle.circuit.specs.declared.state.ConnectWrite.{ConnectWrite}
+use Rattle.circuit.specs.declared.state.ConnectWrite.the-variants.{Unsent, Held, Sent}
+use Rattle.lent.specs.Brought.{Brought, unfinished, failed, connect}
 use Rattle.frames.specs.Gathering.{gatheredInto}
 use Rattle.history.specs.Numbers.{wentOut, isData}
 use Rattle.history.specs.Heard.{heard}

@@ -5,7 +5,7 @@ ghost use mathlib.Core.List.{List};
 ghost use Prim.Native.Nat.{ℕ};
 ghost use Rattle.ids.specs.declared.PeerId.{PeerId};
 ghost use Rattle.ids.specs.declared.ConnectionId.{ConnectionId};
-ghost use Rattle.inbound.specs.declared.circuit.InboundCircuit.{InboundCircuit};
+ghost use Rattle.inbound.specs.declared.InboundCircuit.{InboundCircuit};
 ghost use Rattle.vocabulary.specs.declared.Settings.{Settings};
 ghost use Rattle.history.specs.Calls.{Call, stepOf};
 ghost use Rattle.history.specs.Refusals.{ChangesNothing};

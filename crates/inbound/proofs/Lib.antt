@@ -1,4 +1,1 @@
-pub mod Replies
-pub mod Carries
-pub mod Awaits
-pub mod Turned
+pub mod Answering

@@ -5,18 +5,19 @@ use mathlib.Core.List.{List, []}
 use Rattle.ids.specs.declared.ConnectionId.{ConnectionId}
 use Rattle.ids.specs.declared.StreamId.{StreamId}
 use Rattle.ids.specs.declared.PeerId.{PeerId}
-use Rattle.candidates.specs.Selection as chosen
 use Rattle.frames.specs.declared.Framed.{Framed}
 use Rattle.frames.specs.Sent as frame
 use Rattle.ledger.specs.Ledger.{PathLedger, refusesPunches}
 use Rattle.vocabulary.specs.declared.Settings.{Settings}
 use Rattle.vocabulary.specs.declared.Host.{Host}
 use Rattle.vocabulary.specs.declared.StreamInput.{StreamInput}
-use Rattle.inbound.specs.declared.decision.Decision.{Decision}
-use Rattle.inbound.specs.declared.circuit.InboundCircuit.{InboundCircuit}
-use Rattle.inbound.specs.declared.circuit.Answer.{Answer}
-use Rattle.inbound.specs.Carried.{messageOf, lengthOf, ledgerAfter, connectAfter, targetsAfter}
-use Rattle.inbound.specs.Calls.{startedOf, upOf, tickOf, peeked, inputOf, bufferAfter, wroteOf, downOf}
+use Rattle.circuit.specs.declared.decision.Decision.{Decision}
+use Rattle.inbound.specs.declared.InboundCircuit.{InboundCircuit}
+use Rattle.inbound.specs.declared.Answer.{Answer}
+use Rattle.lent.specs.Carried.{messageOf, ledgerAfter, connectAfter, targetsAfter, noFrame, noAims}
+use Rattle.circuit.specs.Decisions.{lengthOf}
+use Rattle.circuit.specs.Calls.{startedOf, wroteOf, downOf}
+use Rattle.lent.specs.Calls.{upOf, tickOf, peeked, inputOf, bufferAfter}
 
 -- a decision with a circuit's bytes behind it, and a message
 unfoldable pub answerOf : Decision → (connect targets : List ℕ) → Framed → Answer
@@ -44,13 +45,6 @@ plainly c d = answerOf d (c .connect) (c .targets) (frame.packed [])
 -- a round may open; what goes out is the CONNECT from before
 abbrev pub opening : InboundCircuit → List ℕ → Decision → Answer
 opening c own d = answerOf d (connectAfter own (c .connect) (d .fourth)) (c .targets) (messageOf (c .connect) (d .message))
-
--- a circuit begins with no byte of a CONNECT and of targets
-abbrev pub noFrame : List ℕ
-noFrame = frame.packed [] .bytes
-
-abbrev pub noAims : List ℕ
-noAims = chosen.packed [] .bytes
 
 unfoldable pub newAnswer : PeerId → PeerId → ConnectionId → Settings → ℕ → Answer
 newAnswer source relay circuit s at =

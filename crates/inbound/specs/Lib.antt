@@ -1,13 +1,1 @@
-pub mod State
-pub mod Decisions
-pub mod Refusals
-pub mod Rounds
-pub mod Ticks
-pub mod Ups
-pub mod Inputs
-pub mod Brought
-pub mod Replies
-pub mod Carried
-pub mod Calls
 pub mod Circuits
-pub mod Questions

@@ -16,7 +16,7 @@ use Rattle.journal_lines.specs.declared.First.{First}
 use Rattle.journal_prints.specs.Room.{room, isRefused}
 use Rattle.journal_prints.proofs.Room.{short}
 use Rattle.ledger.specs.Ledger.{PathLedger, tablesOf, emptyLedger}
-use Rattle.inbound.specs.Circuits.{noFrame, noAims}
+use Rattle.lent.specs.Carried.{noFrame, noAims}
 use Rattle.journal_turns.specs.Turns.{Journal, stateOf, whole, newJournal, longest}
 use Rattle.journal_turns.specs.declared.State.{State as Numbers}
 use Rattle.journal_text.specs.Texts.{firstOf, isGood, opened, openingText}

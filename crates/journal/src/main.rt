@@ -8,15 +8,15 @@ ghost use mathlib.Core.List.{[], _++_};
 ghost use Rattle.line_program.specs.Reads.{left, NextLine};
 ghost use Rattle.journal_prints.specs.Room.{room};
 ghost use Rattle.ledger.specs.Ledger.{tablesOf, emptyLedger};
-ghost use Rattle.inbound.specs.Circuits.{noFrame, noAims};
+ghost use Rattle.lent.specs.Carried.{noFrame, noAims};
 ghost use Rattle.journal_turns.specs.declared.State.{State as Numbers};
 ghost use Rattle.journal_turns.specs.Turns.{whole, longest};
 ghost use Rattle.journal.specs.Steps.{isLine, waitingAfter, state, stepOf, stepText};
 ghost use Rattle.journal.specs.Runs.{Ran, Replayed};
 use frames::FrameBytes;
-use inbound::state::TargetBytes;
 use journal_turns::State;
 use ledger::Ledger;
+use lent::TargetBytes;
 use line_program::Reading;
 
 // Room for the output lines of one line: four of 497 bytes.

@@ -2,7 +2,7 @@
 use frames::FrameBytes;
 use ids::ConnectionId;
 use ids::StreamId;
-use inbound::state::TargetBytes;
+use lent::TargetBytes;
 use vocabulary::Effect;
 ghost use mathlib.Core.Path.{_≡_};
 ghost use Prim.Native.Nat.{_*_, _≤_, min};

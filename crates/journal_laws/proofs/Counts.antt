@@ -11,9 +11,10 @@ use Rattle.ledger.specs.declared.Answer.the-variants as name
 use Rattle.ledger.specs.Ledger.{PathLedger, dialStarted, attributed}
 use Rattle.vocabulary.specs.declared.Outcome.{Outcome}
 use Rattle.vocabulary.specs.declared.Outcome.the-variants as outcome
-use Rattle.inbound.specs.declared.state.Core.{Core}
-use Rattle.inbound.specs.declared.decision.Decision.{Decision}
-use Rattle.inbound.specs.Calls.{startedOf, upOf, tickOf, wroteOf, downOf}
+use Rattle.circuit.specs.declared.state.Core.{Core}
+use Rattle.circuit.specs.declared.decision.Decision.{Decision}
+use Rattle.circuit.specs.Calls.{startedOf, wroteOf, downOf}
+use Rattle.lent.specs.Calls.{upOf, tickOf}
 use Rattle.inbound.specs.Circuits.{decidedAt}
 use Rattle.journal_lines.specs.declared.Line.{Line}
 use Rattle.journal_lines.specs.declared.Line.the-variants.{Start, Up, Input, Tick, Wrote, Down, Dial, Forget, Attribute, Unknown}

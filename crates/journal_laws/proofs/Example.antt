@@ -25,17 +25,19 @@ use Rattle.candidates.specs.Entries.{count, only}
 use Rattle.candidates.specs.Selection.{selected, bounded, room, once, own}
 use Rattle.rows.specs.Rows.{such}
 use Rattle.ledger.specs.Ledger.{emptyLedger, refusesPunches}
-use Rattle.inbound.specs.State.{inPhase, exchangingOf, punchingOf}
-use Rattle.inbound.specs.Decisions.{eventOf, silence, resetOf, burstOf, sendingOf, decidedOf, quietOf}
-use Rattle.inbound.specs.Refusals.{inUse, checkOf}
-use Rattle.inbound.specs.Rounds.{isLive, openRound}
-use Rattle.inbound.specs.Ticks.{tickPunching}
-use Rattle.inbound.specs.Ups.{announced, connectedOf, upAt}
-use Rattle.inbound.specs.Inputs.{closing, inExchange, writeOf, firstInput, roundTrip, windowOf, openWindow, exchangeInput, awaitsIn}
-use Rattle.inbound.specs.Brought.{broughtBy}
-use Rattle.inbound.specs.Replies.{targetsFrom, peekedOf}
-use Rattle.inbound.specs.Carried.{lengthOf, sentAfter, ledgerAfter, opens, connectAfter, framedBy, targetsAfter}
-use Rattle.inbound.specs.Calls.{begunOf, startedOf, upIn, upOf, tickIn, tickOf, hearing, inputIn, inputOf, bufferAfter}
+use Rattle.circuit.specs.State.{inPhase, exchangingOf, punchingOf}
+use Rattle.circuit.specs.Decisions.{eventOf, silence, resetOf, burstOf, sendingOf, decidedOf, quietOf}
+use Rattle.circuit.specs.Refusals.{inUse, checkOf}
+use Rattle.circuit.specs.Rounds.{isLive, openRound}
+use Rattle.circuit.specs.Ticks.{tickPunching}
+use Rattle.circuit.specs.Ups.{announced, connectedOf, upAt}
+use Rattle.circuit.specs.Inputs.{closing, inExchange, writeOf, firstInput, roundTrip, windowOf, openWindow, exchangeInput, awaitsIn}
+use Rattle.lent.specs.Brought.{broughtBy}
+use Rattle.lent.specs.Replies.{targetsFrom, peekedOf}
+use Rattle.circuit.specs.Decisions.{lengthOf}
+use Rattle.lent.specs.Carried.{sentAfter, ledgerAfter, opens, connectAfter, framedBy, targetsAfter}
+use Rattle.circuit.specs.Calls.{begunOf, startedOf}
+use Rattle.lent.specs.Calls.{upIn, upOf, tickIn, tickOf, hearing, inputIn, inputOf, bufferAfter}
 use Rattle.journal_prints.specs.Outputs.{withCommas, targetsText}
 use Rattle.journal_text.specs.Texts.{firstOf, opened, lineText}
 use Rattle.journal_text.specs.Journals.{cut, linesText, opening, journalText}

@@ -14,9 +14,10 @@ use Rattle.ledger.specs.Ledger.{PathLedger, dialStarted, attributed}
 use Rattle.vocabulary.specs.declared.Host.{Host}
 use Rattle.vocabulary.specs.declared.Outcome.{Outcome}
 use Rattle.vocabulary.specs.declared.Outcome.the-variants as outcome
-use Rattle.inbound.specs.declared.state.Core.{Core}
-use Rattle.inbound.specs.declared.decision.Decision.{Decision}
-use Rattle.inbound.specs.Calls.{startedOf, upOf, tickOf, wroteOf, downOf}
+use Rattle.circuit.specs.declared.state.Core.{Core}
+use Rattle.circuit.specs.declared.decision.Decision.{Decision}
+use Rattle.circuit.specs.Calls.{startedOf, wroteOf, downOf}
+use Rattle.lent.specs.Calls.{upOf, tickOf}
 use Rattle.inbound.specs.Circuits.{answerOf, decidedAt, inputAnswer, inputBuffer}
 use Rattle.history.specs.Calls.{isRefused, stepOf}
 use Rattle.history.specs.Calls as history

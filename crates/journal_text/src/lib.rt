@@ -1,12 +1,12 @@
 // What a journal prints, line by line: each line in, its output lines behind what a lent buffer holds already. What the buffer has no
 // room for is left out.
 use frames::FrameBytes;
-use inbound::state::TargetBytes;
 use journal_effects::Effects;
 use journal_lines::First;
 use journal_turns::Said;
 use journal_turns::State;
 use ledger::Ledger;
+use lent::TargetBytes;
 use path::FoundPath;
 use path::Owner;
 use refusal::Refusal;

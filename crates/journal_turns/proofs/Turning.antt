@@ -31,15 +31,17 @@ use Rattle.vocabulary.specs.declared.StreamInput.{StreamInput}
 use Rattle.vocabulary.specs.declared.Effect.{Effect}
 use Rattle.vocabulary.specs.declared.Outcome.{Outcome}
 use Rattle.vocabulary.specs.declared.Outcome.the-variants.{Accepted, Refused}
-use Rattle.inbound.specs.declared.state.Core.{Core}
-use Rattle.inbound.specs.declared.decision.Decision.{Decision}
-use Rattle.inbound.specs.declared.decision.Fate.{Fate}
-use Rattle.inbound.specs.Decisions.{refusedOf, quietOf, decidedOf, silence, eventOf}
-use Rattle.inbound.specs.Carried.{sentAfter, ledgerAfter, opens, connectAfter, targetsAfter}
-use Rattle.inbound.specs.Calls.{startedOf, upOf, tickOf, peeked, bufferAfter, wroteOf, downOf}
-use Rattle.inbound.specs.Calls as call
-use Rattle.inbound.specs.Circuits.{noFrame, noAims, decidedAt}
-use Rattle.inbound.proofs.Turned.{Whole, up-whole, tick-whole, input-whole}
+use Rattle.circuit.specs.declared.state.Core.{Core}
+use Rattle.circuit.specs.declared.decision.Decision.{Decision}
+use Rattle.circuit.specs.declared.decision.Fate.{Fate}
+use Rattle.circuit.specs.Decisions.{refusedOf, quietOf, decidedOf, silence, eventOf}
+use Rattle.lent.specs.Carried.{sentAfter, ledgerAfter, opens, connectAfter, targetsAfter}
+use Rattle.circuit.specs.Calls.{startedOf, wroteOf, downOf}
+use Rattle.lent.specs.Calls.{upOf, tickOf, peeked, bufferAfter}
+use Rattle.lent.specs.Calls as call
+use Rattle.lent.specs.Carried.{noFrame, noAims}
+use Rattle.inbound.specs.Circuits.{decidedAt}
+use Rattle.lent.proofs.Turned.{Whole, up-whole, tick-whole, input-whole}
 use Rattle.journal_lines.specs.declared.Kind.{Kind}
 use Rattle.journal_lines.specs.declared.Line.{Line}
 use Rattle.journal_turns.specs.declared.State.{State}

@@ -30,14 +30,17 @@ use Rattle.vocabulary.specs.declared.Host.{Host}
 use Rattle.vocabulary.specs.declared.StreamInput.{StreamInput}
 use Rattle.vocabulary.specs.declared.Effect.the-variants.{Nothing}
 use Rattle.vocabulary.specs.declared.Outcome.{Outcome}
-use Rattle.inbound.specs.declared.state.Core.{Core}
-use Rattle.inbound.specs.declared.decision.Decision.{Decision}
-use Rattle.inbound.specs.declared.circuit.InboundCircuit.{InboundCircuit}
-use Rattle.inbound.specs.Carried.{lengthOf, sentAfter, ledgerAfter, connectAfter, targetsAfter}
-use Rattle.inbound.specs.Calls.{startedOf, upOf, tickOf, peeked, bufferAfter, wroteOf, downOf}
-use Rattle.inbound.specs.Calls as call
-use Rattle.inbound.specs.Circuits.{noFrame, noAims, decidedAt}
-use Rattle.inbound.specs.Questions.{claimOf}
+use Rattle.circuit.specs.declared.state.Core.{Core}
+use Rattle.circuit.specs.declared.decision.Decision.{Decision}
+use Rattle.inbound.specs.declared.InboundCircuit.{InboundCircuit}
+use Rattle.circuit.specs.Decisions.{lengthOf}
+use Rattle.lent.specs.Carried.{sentAfter, ledgerAfter, connectAfter, targetsAfter}
+use Rattle.circuit.specs.Calls.{startedOf, wroteOf, downOf}
+use Rattle.lent.specs.Calls.{upOf, tickOf, peeked, bufferAfter}
+use Rattle.lent.specs.Calls as call
+use Rattle.lent.specs.Carried.{noFrame, noAims}
+use Rattle.inbound.specs.Circuits.{decidedAt}
+use Rattle.circuit.specs.Questions.{claimOf}
 use Rattle.journal_lines.specs.Lines.{lineOf}
 use Rattle.journal_lines.specs.declared.Digits.{Digits}
 use Rattle.journal_lines.specs.declared.Kind.{Kind}

@@ -1,5 +1,8 @@
 // What a journal's lines do, one after the other. The journal's numbers go in by value and come back with what is to be said; its bytes are
 // lent: the circuit's CONNECT and targets, the message that goes out, the ledger, and the reply buffer.
+use circuit::decision;
+use circuit::decision::Decision;
+use circuit::state::Core;
 use fields::Maybe;
 use fields::Pair;
 use frames::FrameBytes;
@@ -8,15 +11,12 @@ use ids::ConnectionId;
 use ids::NatToken;
 use ids::PeerId;
 use ids::StreamId;
-use inbound::decision;
-use inbound::decision::Decision;
-use inbound::state::Core;
-use inbound::state::TargetBytes;
 use journal_effects::Effects;
 use journal_lines::Digits;
 use journal_lines::Kind;
 use journal_lines::Line;
 use ledger::Ledger;
+use lent::TargetBytes;
 use path::Claim;
 use path::DialPurpose;
 use path::FoundPath;
@@ -34,9 +34,10 @@ ghost use lib.ListN.{length, replicate};
 ghost use Rattle.text.specs.Printed.{printed, behind};
 ghost use Rattle.path.specs.declared.DialPurpose.the-variants.{Punch};
 ghost use Rattle.ledger.specs.Ledger.{tablesOf, laid, dialStarted, forgotten, attributed};
-ghost use Rattle.inbound.specs.Carried.{sentAfter, ledgerAfter, connectAfter};
-ghost use Rattle.inbound.specs.Calls.{startedOf, upOf, tickOf, wroteOf, downOf};
-ghost use Rattle.inbound.specs.Circuits.{noFrame, noAims};
+ghost use Rattle.lent.specs.Carried.{sentAfter, ledgerAfter, connectAfter};
+ghost use Rattle.circuit.specs.Calls.{startedOf, wroteOf, downOf};
+ghost use Rattle.lent.specs.Calls.{upOf, tickOf};
+ghost use Rattle.lent.specs.Carried.{noFrame, noAims};
 ghost use Rattle.journal_turns.specs.Turns.{longest, whole, stateOf, turned, noEffects, newJournal, oneMore, saying, effectsOf, settledIn, digitsBytes, liveOf, offerOf, hostOf, inputOf, startedIn, clearedBy, inputTurn, expired, claimFor, saidOf, namedAs, needsStart, callTurn, turnOf, lineTurn};
 
 // ---- the state
@@ -244,7 +245,7 @@ fn start_turn(
             return say(j, Said::Refused(why));
         }
         Outcome::Accepted => {
-            inbound::circuit::clear(connect, targets);
+            lent::calls::clear(connect, targets);
             return say(
                 State {
                     begun: true,
@@ -275,7 +276,17 @@ fn up_turn(
     ensures words { λ r. ⌜ now (ledger .exit) ≡ laid (ledgerAfter (j .core .source) (tablesOf (now (ledger .entry))) (upOf (j .core) host (now (own .entry)) peer conn circuit .window)) (now (ledger .entry)) ⌝ }
 {
     let core = j.core;
-    let d = core.on_connection_established(connect, sent, ledger, host, own, peer, conn, circuit);
+    let d = lent::calls::on_connection_established(
+        core,
+        connect,
+        sent,
+        ledger,
+        host,
+        own,
+        peer,
+        conn,
+        circuit,
+    );
     settle(j, d)
 }
 
@@ -336,7 +347,8 @@ fn input_turn(
     rows::known(ledger);
     let core = j.core;
     let input = input_of(kind);
-    let d = core.on_dcutr_stream_input(
+    let d = lent::calls::on_dcutr_stream_input(
+        core,
         connect,
         targets,
         sent,
@@ -420,7 +432,7 @@ fn tick_turn(
     ensures words { λ r. ⌜ now (ledger .exit) ≡ laid (expired (tickOf (j .core) host (now (own .entry)) .outcome) (ledgerAfter (j .core .source) (tablesOf (now (ledger .entry))) (tickOf (j .core) host (now (own .entry)) .window)) (host .at)) (laid (ledgerAfter (j .core .source) (tablesOf (now (ledger .entry))) (tickOf (j .core) host (now (own .entry)) .window)) (now (ledger .entry))) ⌝ }
 {
     let core = j.core;
-    let d = core.on_tick(connect, sent, ledger, host, own);
+    let d = lent::calls::on_tick(core, connect, sent, ledger, host, own);
     let outcome = d.outcome;
     expire(outcome, ledger, host.at);
     settle(j, d)

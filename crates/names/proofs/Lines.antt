@@ -36,19 +36,22 @@ use Rattle.vocabulary.specs.declared.Effect.{Effect}
 use Rattle.vocabulary.specs.declared.Effect.the-variants.{Nothing, Path, Burst, Upgrade, Close, Send, Reset, Open}
 use Rattle.vocabulary.specs.declared.Outcome.{Outcome}
 use Rattle.vocabulary.specs.declared.Outcome.the-variants as outcome
-use Rattle.inbound.specs.declared.state.Phase.{Phase}
-use Rattle.inbound.specs.declared.state.Phase.the-variants.{Handshaking, Done}
-use Rattle.inbound.specs.declared.decision.Message.{Message}
-use Rattle.inbound.specs.declared.decision.Message.the-variants as message
-use Rattle.inbound.specs.declared.decision.Decision.{Decision}
-use Rattle.inbound.specs.declared.circuit.InboundCircuit.{InboundCircuit}
-use Rattle.inbound.specs.declared.circuit.Answer.{Answer}
-use Rattle.inbound.specs.State.{isDone}
-use Rattle.inbound.specs.Decisions.{eventOf, silence, decidedOf, quietOf, refusedOf}
-use Rattle.inbound.specs.Carried.{messageOf, lengthOf, sentAfter}
-use Rattle.inbound.specs.Calls.{begunOf, startedOf, upOf, tickOf, wroteOf, downOf}
-use Rattle.inbound.specs.Circuits.{noFrame, noAims, answerOf, newAnswer, upAnswer, tickAnswer, decidedAt, inputAnswer, inputBuffer, wroteAnswer, downAnswer}
-use Rattle.inbound.specs.Questions.{claimOf}
+use Rattle.circuit.specs.declared.state.Phase.{Phase}
+use Rattle.circuit.specs.declared.state.Phase.the-variants.{Handshaking, Done}
+use Rattle.circuit.specs.declared.decision.Message.{Message}
+use Rattle.circuit.specs.declared.decision.Message.the-variants as message
+use Rattle.circuit.specs.declared.decision.Decision.{Decision}
+use Rattle.inbound.specs.declared.InboundCircuit.{InboundCircuit}
+use Rattle.inbound.specs.declared.Answer.{Answer}
+use Rattle.circuit.specs.State.{isDone}
+use Rattle.circuit.specs.Decisions.{eventOf, silence, decidedOf, quietOf, refusedOf}
+use Rattle.lent.specs.Carried.{messageOf, sentAfter}
+use Rattle.circuit.specs.Decisions.{lengthOf}
+use Rattle.circuit.specs.Calls.{begunOf, startedOf, wroteOf, downOf}
+use Rattle.lent.specs.Calls.{upOf, tickOf}
+use Rattle.lent.specs.Carried.{noFrame, noAims}
+use Rattle.inbound.specs.Circuits.{answerOf, newAnswer, upAnswer, tickAnswer, decidedAt, inputAnswer, inputBuffer, wroteAnswer, downAnswer}
+use Rattle.circuit.specs.Questions.{claimOf}
 use Rattle.history.specs.Calls.{Call, up, input, tick, wrote, down, isRefused, stepOf}
 use Rattle.history.specs.Book.{Stage, Who, fresh, note}
 use Rattle.history.specs.Demand3.{begun}

@@ -6,7 +6,7 @@ use mathlib.Core.List.{List, [], _∷_}
 use Prim.Native.Nat.{ℕ}
 use Rattle.ids.specs.declared.PeerId.{PeerId}
 use Rattle.ids.specs.declared.ConnectionId.{ConnectionId}
-use Rattle.inbound.specs.declared.circuit.InboundCircuit.{InboundCircuit}
+use Rattle.inbound.specs.declared.InboundCircuit.{InboundCircuit}
 use Rattle.vocabulary.specs.declared.Settings.{Settings}
 use Rattle.history.specs.Demand3.{begun}
 use Rattle.history.specs.Calls.{stepOf, datagrams, refusals}

@@ -10,8 +10,8 @@ use Rattle.ids.specs.declared.PeerId.{PeerId}
 use Rattle.ledger.specs.Ledger.{PathLedger}
 use Rattle.vocabulary.specs.declared.Settings.{Settings}
 use Rattle.vocabulary.specs.declared.Host.{Host}
-use Rattle.inbound.specs.declared.circuit.InboundCircuit.{InboundCircuit}
-use Rattle.inbound.specs.declared.circuit.Answer.{Answer}
+use Rattle.inbound.specs.declared.InboundCircuit.{InboundCircuit}
+use Rattle.inbound.specs.declared.Answer.{Answer}
 use Rattle.inbound.specs.Circuits.{tickAnswer, wroteAnswer}
 use Rattle.history.specs.Calls.{Call, tick, wrote, Datagram, Step, answered, stepOf, datagrams, refusals}
 use Rattle.history.specs.Demand3.{due, most, begun, windowsOf}

@@ -1,8 +1,8 @@
 // Calls on a circuit behind `&mut`: each takes it out, makes the call by value, and stores the circuit that this leaves.
 use ids::ConnectionId;
 use ids::StreamId;
-use inbound::circuit::Answer;
-use inbound::circuit::InboundCircuit;
+use inbound::Answer;
+use inbound::InboundCircuit;
 use ledger::Ledger;
 use vocabulary::Host;
 ghost use mathlib.Core.Path.{_≡_};
@@ -11,7 +11,7 @@ ghost use mathlib.Core.List.{List};
 ghost use Prim.Native.Nat.{ℕ};
 ghost use Rattle.ids.specs.declared.PeerId.{PeerId};
 ghost use Rattle.ids.specs.declared.ConnectionId.{ConnectionId};
-ghost use Rattle.inbound.specs.declared.circuit.InboundCircuit.{InboundCircuit};
+ghost use Rattle.inbound.specs.declared.InboundCircuit.{InboundCircuit};
 ghost use Rattle.vocabulary.specs.declared.Settings.{Settings};
 ghost use Rattle.ledger.specs.Ledger.{tablesOf, laid};
 ghost use Rattle.inbound.specs.Circuits.{tickAnswer, wroteAnswer, ledgerBehind};

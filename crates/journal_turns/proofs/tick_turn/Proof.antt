@@ -1,4 +1,4 @@
-use Rattle.inbound.specs.Calls.{tickOf}
+use Rattle.lent.specs.Calls.{tickOf}
 use Rattle.ledger.specs.Ledger.{tablesOf}
 use denote.Ref.{now}
 use Rattle.journal_turns.proofs.Turning.{ticked-turn}

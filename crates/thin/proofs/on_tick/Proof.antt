@@ -46,21 +46,21 @@ use denote.Exit.{yes}
 use Rattle.ledger.specs.Ledger.{PathLedger, laid, tablesOf as ledger-tables}
 use Rattle.inbound.specs.Circuits.{tickAnswer, ledgerBehind}
 use Rattle.vocabulary.specs.declared.Host.{Host}
-use Rattle.inbound.specs.declared.circuit.InboundCircuit.{InboundCircuit}
-use Rattle.inbound.specs.declared.circuit.Answer.{Answer}
-use Rattle.inbound.proofs.circuit.InboundCircuit.on_tick.Symbol.{name as #callee}
+use Rattle.inbound.specs.declared.InboundCircuit.{InboundCircuit}
+use Rattle.inbound.specs.declared.Answer.{Answer}
+use Rattle.inbound.proofs.InboundCircuit.on_tick.Symbol.{name as #callee}
 use Rattle.thin.proofs.Says.{says4}
 use Rattle.thin.proofs.on_tick.Key.{name as #this}
 use denote.Struct.Laws as LL
 use Rattle.vocabulary.proofs.Host as Host·
 use Rattle.vocabulary.proofs.Host.Laws as Host·L
-use Rattle.inbound.proofs.circuit.InboundCircuit as InboundCircuit·
-use Rattle.inbound.proofs.circuit.InboundCircuit.Laws as InboundCircuit·L
-use Rattle.inbound.proofs.circuit.Answer as Answer·
-use Rattle.inbound.proofs.circuit.Answer.Laws as Answer·L
-use Rattle.inbound.proofs.circuit.InboundCircuit.on_tick as callee
-use Rattle.inbound.proofs.circuit.InboundCircuit.on_tick.Symbol as callee-def
-use Rattle.inbound.proofs.circuit.InboundCircuit.on_tick.Met as callee-thm
+use Rattle.inbound.proofs.InboundCircuit as InboundCircuit·
+use Rattle.inbound.proofs.InboundCircuit.Laws as InboundCircuit·L
+use Rattle.inbound.proofs.Answer as Answer·
+use Rattle.inbound.proofs.Answer.Laws as Answer·L
+use Rattle.inbound.proofs.InboundCircuit.on_tick as callee
+use Rattle.inbound.proofs.InboundCircuit.on_tick.Symbol as callee-def
+use Rattle.inbound.proofs.InboundCircuit.on_tick.Met as callee-thm
 use Rattle.thin.proofs.on_tick as this
 use Rattle.thin.proofs.on_tick.Statement as stated
 use Rattle.thin.proofs.on_tick.Code as code

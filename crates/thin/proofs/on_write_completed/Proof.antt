@@ -43,9 +43,9 @@ use denote.Exit.{yes}
 use Rattle.inbound.specs.Circuits.{wroteAnswer}
 use Rattle.ids.specs.declared.ConnectionId.{ConnectionId}
 use Rattle.ids.specs.declared.StreamId.{StreamId}
-use Rattle.inbound.specs.declared.circuit.InboundCircuit.{InboundCircuit}
-use Rattle.inbound.specs.declared.circuit.Answer.{Answer}
-use Rattle.inbound.proofs.circuit.InboundCircuit.on_write_completed.Symbol.{name as #callee}
+use Rattle.inbound.specs.declared.InboundCircuit.{InboundCircuit}
+use Rattle.inbound.specs.declared.Answer.{Answer}
+use Rattle.inbound.proofs.InboundCircuit.on_write_completed.Symbol.{name as #callee}
 use Rattle.thin.proofs.Says.{says2}
 use Rattle.thin.proofs.on_write_completed.Key.{name as #this}
 use denote.Struct.Laws as LL
@@ -53,13 +53,13 @@ use Rattle.ids.proofs.ConnectionId as ConnectionId·
 use Rattle.ids.proofs.ConnectionId.Laws as ConnectionId·L
 use Rattle.ids.proofs.StreamId as StreamId·
 use Rattle.ids.proofs.StreamId.Laws as StreamId·L
-use Rattle.inbound.proofs.circuit.InboundCircuit as InboundCircuit·
-use Rattle.inbound.proofs.circuit.InboundCircuit.Laws as InboundCircuit·L
-use Rattle.inbound.proofs.circuit.Answer as Answer·
-use Rattle.inbound.proofs.circuit.Answer.Laws as Answer·L
-use Rattle.inbound.proofs.circuit.InboundCircuit.on_write_completed as callee
-use Rattle.inbound.proofs.circuit.InboundCircuit.on_write_completed.Symbol as callee-def
-use Rattle.inbound.proofs.circuit.InboundCircuit.on_write_completed.Met as callee-thm
+use Rattle.inbound.proofs.InboundCircuit as InboundCircuit·
+use Rattle.inbound.proofs.InboundCircuit.Laws as InboundCircuit·L
+use Rattle.inbound.proofs.Answer as Answer·
+use Rattle.inbound.proofs.Answer.Laws as Answer·L
+use Rattle.inbound.proofs.InboundCircuit.on_write_completed as callee
+use Rattle.inbound.proofs.InboundCircuit.on_write_completed.Symbol as callee-def
+use Rattle.inbound.proofs.InboundCircuit.on_write_completed.Met as callee-thm
 use Rattle.thin.proofs.on_write_completed as this
 use Rattle.thin.proofs.on_write_completed.Statement as stated
 use Rattle.thin.proofs.on_write_completed.Code as code

@@ -1,0 +1,252 @@
+-- What becomes of lent bytes where a decision is carried out, and what a decision keeps where its CONNECT is written.
+-- Assumes nothing.
+use mathlib.Core.Path.{_≡_, refl, sym, _∙_, ap}
+use mathlib.Core.Bool.{Bool, true, false}
+use mathlib.Core.List.{List, _++_, append-nil}
+use Prim.Native.Nat.{ℕ, _+_, _<_, _≤_}
+use native.Mathlib.Omega.{arith}
+use borrow.Author.Tests.{lt-ltb, le-ltb}
+use lib.ListN.{length, drop-of-length-le}
+use lib.Seq.{sets}
+use Rattle.prelude.specs.Choice.{pick, both}
+use Rattle.ids.specs.declared.PeerId.{PeerId}
+use Rattle.ids.specs.declared.StreamId.{StreamId}
+use Rattle.refusal.specs.declared.Refusal.{Refusal}
+use Rattle.refusal.specs.declared.Refusal.the-variants.{ReplyBufferTooShort}
+use Rattle.wire.specs.Frame.{maxFrameSize}
+use Rattle.candidates.specs.declared.Chosen.{Chosen}
+use Rattle.frames.specs.declared.Framed.{Framed}
+use Rattle.frames.specs.Gathering.{gatheredInto}
+use Rattle.ledger.specs.Ledger.{tablesOf, laid, endPunches, expectPunches}
+use Rattle.ledger.proofs.Laws.{laid-same}
+use Rattle.vocabulary.specs.declared.Host.{Host}
+use Rattle.vocabulary.specs.declared.StreamInput.{StreamInput}
+use Rattle.vocabulary.specs.declared.Outcome.the-variants.{Accepted, Refused}
+use Rattle.wire.proofs.Stores.{sets-front}
+use Rattle.vocabulary.specs.declared.Outcome.{Outcome}
+use Rattle.circuit.specs.declared.decision.Fate.{Fate}
+use Rattle.circuit.specs.declared.decision.Decision.{Decision}
+use Rattle.frames.specs.Sent.{ownConnect}
+use Rattle.circuit.specs.declared.state.Core.{Core}
+use Rattle.circuit.specs.declared.decision.Fate.the-variants.{Kept, Removed, Opened}
+use Rattle.circuit.specs.declared.decision.Message.the-variants as message
+use Rattle.circuit.specs.declared.input.Heard.the-variants as heard
+use Rattle.lent.specs.declared.reply.Peeked.{Peeked}
+use Rattle.circuit.specs.Decisions.{refusedOf}
+use Rattle.circuit.specs.Refusals.{checkOf}
+use Rattle.circuit.specs.Inputs.{inputAt, awaits, frameBytes}
+use Rattle.lent.specs.Brought.{broughtBy}
+use Rattle.lent.specs.Replies.{peekedOf}
+use Rattle.lent.specs.Carried.{sentAfter, ledgerAfter, opens, connectAfter, withConnect, withCore, framedBy, targetsAfter}
+use Rattle.lent.specs.Calls.{peeked, hearing, inputIn, isAccepted, bufferAfter}
+use Rattle.lent.proofs.Awaits.{unheard}
+
+-- bytes that are as long as the buffer stand in all of it
+pub sets-whole : (o new : List ℕ) → length new ≡ length o → sets o 0 new ≡ new
+sets-whole o new h =
+    sets-front o new (omega arith) ∙ ap (λ (t : List ℕ). new ++ t) (drop-of-length-le o {i = length new} (omega arith)) ∙ append-nil new
+
+-- only the core's number of CONNECT bytes changes
+module _ (own : List ℕ) (d : Decision) where
+  pub framed-fourth : framedBy own d .fourth ≡ d .fourth
+  unfolding framedBy
+  framed-fourth = go (opens (d .fourth))
+    where
+      go : (v : Bool) → pick v (withCore d (withConnect (d .core) (ownConnect own .len))) d .fourth ≡ d .fourth
+      go true = refl
+      go false = refl
+
+  pub framed-message : framedBy own d .message ≡ d .message
+  unfolding framedBy
+  framed-message = go (opens (d .fourth))
+    where
+      go : (v : Bool) → pick v (withCore d (withConnect (d .core) (ownConnect own .len))) d .message ≡ d .message
+      go true = refl
+      go false = refl
+
+  pub framed-window : framedBy own d .window ≡ d .window
+  unfolding framedBy
+  framed-window = go (opens (d .fourth))
+    where
+      go : (v : Bool) → pick v (withCore d (withConnect (d .core) (ownConnect own .len))) d .window ≡ d .window
+      go true = refl
+      go false = refl
+
+  pub framed-outcome : framedBy own d .outcome ≡ d .outcome
+  unfolding framedBy
+  framed-outcome = go (opens (d .fourth))
+    where
+      go : (v : Bool) → pick v (withCore d (withConnect (d .core) (ownConnect own .len))) d .outcome ≡ d .outcome
+      go true = refl
+      go false = refl
+
+-- ---- the ledger's window
+
+module _ (source : PeerId) (ws : List ℕ) {w : Fate} where
+  pub window-kept : length ws ≡ 963 → w ≡ Kept
+      → (tablesOf ws ≡ ledgerAfter source (tablesOf ws) w) × (ws ≡ laid (ledgerAfter source (tablesOf ws) w) ws)
+  unfolding ledgerAfter
+  window-kept h e = rw e (refl, sym (laid-same ws h))
+
+  module _ {zs : List ℕ} where
+    pub window-removed : w ≡ Removed → (tablesOf zs ≡ endPunches (tablesOf ws) source) × (zs ≡ laid (endPunches (tablesOf ws) source) ws)
+        → (tablesOf zs ≡ ledgerAfter source (tablesOf ws) w) × (zs ≡ laid (ledgerAfter source (tablesOf ws) w) ws)
+    unfolding ledgerAfter
+    window-removed e p = rw e p
+
+    pub window-opened : {until : ℕ} → w ≡ Opened until
+        → (tablesOf zs ≡ expectPunches (tablesOf ws) source until .ledger) × (zs ≡ laid (expectPunches (tablesOf ws) source until .ledger) ws)
+        → (tablesOf zs ≡ ledgerAfter source (tablesOf ws) w) × (zs ≡ laid (ledgerAfter source (tablesOf ws) w) ws)
+    unfolding ledgerAfter
+    window-opened e p = rw e p
+
+-- ---- the CONNECT of a round
+
+module _ (own connect : List ℕ) (d : Decision) {x : List ℕ} {f : Framed} where
+  pub connect-written : opens (d .fourth) ≡ true → f ≡ ownConnect own → x ≡ f .bytes
+      → (withCore d (withConnect (d .core) (f .len)) ≡ framedBy own d) × (x ≡ connectAfter own connect (d .fourth))
+  unfolding framedBy connectAfter
+  connect-written o e g = rw o (ap (λ (y : Framed). withCore d (withConnect (d .core) (y .len))) e, g ∙ ap (λ (y : Framed). y .bytes) e)
+
+pub connect-stays : (own connect : List ℕ) (d : Decision) → opens (d .fourth) ≡ false
+    → (d ≡ framedBy own d) × (connect ≡ connectAfter own connect (d .fourth))
+unfolding framedBy connectAfter
+connect-stays own connect d o = rw o (refl, refl)
+
+-- ---- a decision carried out
+
+module _ (own connect sent ws : List ℕ) (source : PeerId) {d e r : Decision} {x y zs : List ℕ} (same : d ≡ e)
+    (p : (r ≡ framedBy own d) × ((x ≡ connectAfter own connect (d .fourth)) × ((y ≡ sentAfter connect sent (d .message))
+    × ((tablesOf zs ≡ ledgerAfter source (tablesOf ws) (d .window)) × (zs ≡ laid (ledgerAfter source (tablesOf ws) (d .window)) ws))))) where
+  fate : d .window ≡ framedBy own e .window
+  fate = ap (λ (z : Decision). z .window) same ∙ sym (framed-window own e)
+
+  pub done : (r ≡ framedBy own e) × ((x ≡ connectAfter own connect (framedBy own e .fourth)) × ((y ≡ sentAfter connect sent (framedBy own e .message))
+      × ((tablesOf zs ≡ ledgerAfter source (tablesOf ws) (framedBy own e .window)) × (zs ≡ laid (ledgerAfter source (tablesOf ws) (framedBy own e .window)) ws))))
+  done = (
+    p .0 ∙ ap (framedBy own) same,
+    (
+      p .1 .0 ∙ ap (connectAfter own connect) (ap (λ (z : Decision). z .fourth) same ∙ sym (framed-fourth own e)),
+      (
+        p .1 .1 .0 ∙ ap (sentAfter connect sent) (ap (λ (z : Decision). z .message) same ∙ sym (framed-message own e)),
+        (
+          p .1 .1 .1 .0 ∙ ap (ledgerAfter source (tablesOf ws)) fate,
+          p .1 .1 .1 .1 ∙ ap (λ (z : Fate). laid (ledgerAfter source (tablesOf ws) z) ws) fate,
+        ),
+      ),
+    ),
+  )
+
+-- and with the targets and the reply buffer of an input
+module _ (own connect sent ws : List ℕ) (source : PeerId) (targets : List ℕ) (q : Chosen) (c : Core) (at : ℕ) (buffer : List ℕ) (stream : StreamId)
+    (kind : StreamInput) (bytes : List ℕ) {d e r : Decision} {x y zs t b : List ℕ}
+    (s : (d ≡ e) × ((t ≡ targetsAfter targets q (e .window)) × (b ≡ bufferAfter c at buffer stream kind bytes (e .outcome))))
+    (p : (r ≡ framedBy own d) × ((x ≡ connectAfter own connect (d .fourth)) × ((y ≡ sentAfter connect sent (d .message))
+    × ((tablesOf zs ≡ ledgerAfter source (tablesOf ws) (d .window)) × (zs ≡ laid (ledgerAfter source (tablesOf ws) (d .window)) ws))))) where
+  pub done-input : (r ≡ framedBy own e) × ((x ≡ connectAfter own connect (framedBy own e .fourth))
+      × ((t ≡ targetsAfter targets q (framedBy own e .window)) × ((y ≡ sentAfter connect sent (framedBy own e .message))
+      × ((tablesOf zs ≡ ledgerAfter source (tablesOf ws) (framedBy own e .window))
+      × ((zs ≡ laid (ledgerAfter source (tablesOf ws) (framedBy own e .window)) ws)
+      × (b ≡ bufferAfter c at buffer stream kind bytes (framedBy own e .outcome)))))))
+  done-input =
+      let u = done own connect sent ws source (s .0) p in (
+        u .0,
+        (
+          u .1 .0,
+          (
+            s .1 .0 ∙ ap (targetsAfter targets q) (sym (framed-window own e)),
+            (
+              u .1 .1 .0,
+              (
+                u .1 .1 .1 .0,
+                (
+                  u .1 .1 .1 .1,
+                  s .1 .1 ∙ ap (bufferAfter c at buffer stream kind bytes) (sym (framed-outcome own e)),
+                ),
+              ),
+            ),
+          ),
+        ),
+      )
+
+-- ---- an input
+
+module _ (c : Core) (full : Bool) (h : Host) (targets buffer : List ℕ) (stream : StreamId) (kind : StreamInput) (bytes : List ℕ) (pending : Bool) where
+  abbrev Heard·by : Decision → List ℕ → List ℕ → Decision → List ℕ → Type 0
+  Heard·by d t b e s =
+      (d ≡ e) × ((t ≡ targetsAfter targets (peeked c buffer bytes .targets) (e .window)) × (b ≡ s))
+
+  -- what was peeked at decides
+  pub heard-then : {n : ℕ} {p : Peeked} {f a : Bool} {d : Decision} {t b : List ℕ} → n ≡ frameBytes (c .phase)
+      → p ≡ peekedOf (c .settings .private) (broughtBy bytes buffer n) → f ≡ full
+      → d ≡ inputAt c h stream kind pending (p .heard) (p .targets .len) f (c .phase) → a ≡ isAccepted (d .outcome)
+      → b ≡ pick a (gatheredInto bytes buffer n) buffer → t ≡ targetsAfter targets (p .targets) (d .window)
+      → Heard·by d t b (hearing c full h buffer stream kind bytes pending)
+      (pick (isAccepted (hearing c full h buffer stream kind bytes pending .outcome)) (gatheredInto bytes buffer (frameBytes (c .phase))) buffer)
+  unfolding hearing
+  heard-then {n} {p} {f} {a} {d} {t} {b} i j k l m o q =
+      let u : p ≡ peeked c buffer bytes = j ∙ ap (λ (z : ℕ). peekedOf (c .settings .private) (broughtBy bytes buffer z)) i in
+      let v : d ≡ hearing c full h buffer stream kind bytes pending =
+      l ∙ ap (λ (z : Peeked). inputAt c h stream kind pending (z .heard) (z .targets .len) f (c .phase)) u
+      ∙ ap (λ (z : Bool). inputAt c h stream kind pending (peeked c buffer bytes .heard) (peeked c buffer bytes .targets .len) z (c .phase)) k in (
+        v,
+        (
+          q ∙ ap (λ (z : Peeked). targetsAfter targets (z .targets) (d .window)) u
+              ∙ ap (λ (z : Decision). targetsAfter targets (peeked c buffer bytes .targets) (z .window)) v,
+          o ∙ ap (λ (z : Bool). pick z (gatheredInto bytes buffer n) buffer) (m ∙ ap (λ (z : Decision). isAccepted (z .outcome)) v)
+              ∙ ap (λ (z : ℕ). pick (isAccepted (hearing c full h buffer stream kind bytes pending .outcome)) (gatheredInto bytes buffer z) buffer) i,
+        ),
+      )
+
+  module _ (own : List ℕ) where
+    abbrev D : Decision
+    D = inputIn c full h own buffer stream kind bytes pending
+
+    abbrev Left : Decision → List ℕ → List ℕ → Type 0
+    Left d t b = Heard·by d t b D (bufferAfter c (h .at) buffer stream kind bytes (D .outcome))
+
+    refused-left : (why : Refusal) {d : Decision} → D ≡ refusedOf c why → d ≡ refusedOf c why → Left d targets buffer
+    unfolding refusedOf targetsAfter bufferAfter
+    refused-left why {d} e g = rw e (g, (refl, refl))
+
+    pub short-left : {d : Decision} → length buffer < maxFrameSize → d ≡ refusedOf c ReplyBufferTooShort → Left d targets buffer
+    unfolding inputIn
+    short-left h g = refused-left ReplyBufferTooShort (rw (lt-ltb (length buffer) maxFrameSize h)) g
+
+    module _ (long : maxFrameSize ≤ length buffer) {o : Outcome} (check : o ≡ checkOf (c .phase) (h .offer) own) where
+      pub turned-left : {why : Refusal} {d : Decision} → o ≡ Refused why → d ≡ refusedOf c why → Left d targets buffer
+      unfolding inputIn
+      turned-left {why} {d} e g = refused-left why (rw (le-ltb (length buffer) maxFrameSize long, ← check, e)) g
+
+      passed : o ≡ Accepted → D ≡ hearing c full h buffer stream kind bytes pending
+      unfolding inputIn
+      passed e = rw (le-ltb (length buffer) maxFrameSize long, ← check, e)
+
+      pub heard-left : {a : Bool} {d : Decision} {t b : List ℕ} → o ≡ Accepted → a ≡ awaits c (h .at) stream kind (c .phase) → a ≡ true
+          → Heard·by d t b (hearing c full h buffer stream kind bytes pending)
+          (pick (isAccepted (hearing c full h buffer stream kind bytes pending .outcome)) (gatheredInto bytes buffer (frameBytes (c .phase))) buffer)
+          → Left d t b
+      unfolding bufferAfter
+      heard-left {a} {d} {t} {b} e i j p =
+          rw (passed e, ← i, j) (p .0, (p .1 .0, p .1 .1 ∙ ap (λ (z : Bool). pick z (gatheredInto bytes buffer (frameBytes (c .phase))) buffer) (with-true (isAccepted (hearing c full h buffer stream kind bytes pending .outcome)))))
+        where
+          with-true : (v : Bool) → v ≡ both v true
+          with-true true = refl
+          with-true false = refl
+
+      pub unheard-left : {a : Bool} {d : Decision} → o ≡ Accepted → a ≡ awaits c (h .at) stream kind (c .phase) → a ≡ false
+          → d ≡ inputAt c h stream kind pending heard.Nothing 0 false (c .phase) → Left d targets buffer
+      unfolding bufferAfter hearing
+      unheard-left {a} {d} e i j g =
+          let u = unheard c h stream kind pending (peeked c buffer bytes .heard) (peeked c buffer bytes .targets .len) full (c .phase) (sym i ∙ j) in
+          let v : D ≡ inputAt c h stream kind pending heard.Nothing 0 false (c .phase) = passed e ∙ u .0 in (
+            g ∙ sym v,
+            (
+              sym (u .1 targets (peeked c buffer bytes .targets)) ∙ ap (λ (z : Decision). targetsAfter targets (peeked c buffer bytes .targets) (z .window)) (sym v),
+              rw (← i, j) (with-false (isAccepted (D .outcome))),
+            ),
+          )
+        where
+          with-false : (v : Bool) → buffer ≡ pick (both v false) (gatheredInto bytes buffer (frameBytes (c .phase))) buffer
+          with-false true = refl
+          with-false false = refl

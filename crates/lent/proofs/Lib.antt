@@ -1,0 +1,4 @@
+pub mod Replies
+pub mod Carries
+pub mod Awaits
+pub mod Turned

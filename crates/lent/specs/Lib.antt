@@ -1,0 +1,4 @@
+pub mod Brought
+pub mod Replies
+pub mod Carried
+pub mod Calls
