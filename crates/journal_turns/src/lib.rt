@@ -99,6 +99,7 @@ fn no_effects() -> Effects
         fourth: Effect::Nothing,
         message: 0,
         targets: 0,
+        took: false,
     }
 }
 
@@ -130,6 +131,7 @@ fn effects_of(d: Decision) -> Effects
         fourth: fourth,
         message: size,
         targets: core.targets,
+        took: d.took,
     }
 }
 
