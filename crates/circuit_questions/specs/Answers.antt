@@ -9,7 +9,7 @@ use Rattle.path.specs.declared.Claim.{Claim}
 use Rattle.vocabulary.specs.declared.Deadline.{Deadline}
 use Rattle.circuit.specs.declared.state.Core.{Core}
 use Rattle.circuit.specs.Questions.{promotesOf, claimOf, nextDeadlineAt}
-use Rattle.journal_turns.specs.Turns.{Journal, lineTurn}
+use Rattle.journal_turns.specs.Turns.{Journal, Turned, lineTurn}
 use Rattle.circuit_questions.specs.declared.Answers.{Answers}
 use Rattle.path.specs.declared.Claim.the-variants as claim
 use Rattle.vocabulary.specs.declared.Deadline.the-variants as deadline
@@ -42,18 +42,20 @@ abbrev pub nextText : Deadline → List ℕ
 nextText (deadline.At end) = ascii " next=" ++ decimal end
 nextText deadline.None = ascii " next=none"
 
-unfoldable pub answersText : ℕ → Answers → List ℕ
-answersText n a =
+-- the last is of the line's call itself: whether it took an established connection (section 11.5)
+unfoldable pub answersText : ℕ → Answers → (took : Bool) → List ℕ
+answersText n a took =
     ascii "n=" ++ decimal n
     ++ nextText (a .next)
     ++ (ascii " promotes=" ++ decimal (bit (a .promotes)))
     ++ (ascii " claims=" ++ decimal (bit (a .claims)))
+    ++ (ascii " took=" ++ decimal (bit took))
     ++ ascii "\n"
 
--- in the line's number, of the circuit as the line leaves it
-abbrev pub journalText : Journal → List ℕ
-journalText j = answersText (j .n) (answersOf (j .begun) (j .circuit .core))
+-- in the line's number, of the circuit as the line leaves it, and of what the line's call answered
+abbrev pub turnText : Turned → List ℕ
+turnText t = answersText (t .journal .n) (answersOf (t .journal .begun) (t .journal .circuit .core)) (t .effects .took)
 
 -- the journal before a line, the reply buffer, the line without its line feed, and whether it had one (section 12.7)
 unfoldable pub lineText : Journal → List ℕ → List ℕ → Bool → List ℕ
-lineText j reply line ended = journalText (lineTurn j reply line ended .turn .journal)
+lineText j reply line ended = turnText (lineTurn j reply line ended .turn)

@@ -1,5 +1,5 @@
 // Replays the journal on standard input and prints after each line what the circuit then answers to the questions of docs/RULES.md,
-// section 11.9, asked about the connection of its own number. README.md has the lines.
+// section 11.9, asked about the connection of its own number, and whether the line's call took a connection. README.md has the lines.
 ghost use mathlib.Core.Path.{_≡_};
 ghost use Prim.Native.Nat.{_≤_};
 ghost use lib.ListN.{length};
@@ -77,17 +77,19 @@ fn put_next(next: Deadline, out: &mut [u8], at: usize) -> usize
     }
 }
 
-fn put_answers(n: u64, a: Answers, out: &mut [u8]) -> usize
-    ensures bytes { λ r. ⌜ now (out .exit) ≡ printed (now (out .entry)) 0 (answersText n a) ⌝ }
-    ensures place { λ r. ⌜ r ≡ behind (now (out .entry)) 0 (answersText n a) ⌝ }
+fn put_answers(n: u64, a: Answers, took: bool, out: &mut [u8]) -> usize
+    ensures bytes { λ r. ⌜ now (out .exit) ≡ printed (now (out .entry)) 0 (answersText n a took) ⌝ }
+    ensures place { λ r. ⌜ r ≡ behind (now (out .entry)) 0 (answersText n a took) ⌝ }
 {
     let next = a.next;
     let promotes = one_if(a.promotes);
     let claims = one_if(a.claims);
+    let taken = one_if(took);
     let p = fields::put_number(b"n=", n, out, 0);
     let p = put_next(next, out, p);
     let p = fields::put_number(b" promotes=", promotes, out, p);
     let p = fields::put_number(b" claims=", claims, out, p);
+    let p = fields::put_number(b" took=", taken, out, p);
     text::put_text(b"\n", out, p)
 }
 
@@ -119,8 +121,9 @@ fn answer_line(
     let t = journal_turns::take_line(j, connect, targets, sent, ledger, reply, line, ended);
     let next = t.state;
     let core = next.core;
+    let effects = t.effects;
     let a = ask(next.begun, core);
-    let end = put_answers(next.n, a, out);
+    let end = put_answers(next.n, a, effects.took, out);
     Answered {
         state: next,
         end: end,

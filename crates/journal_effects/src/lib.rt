@@ -14,7 +14,8 @@ ghost use Rattle.candidates.specs.Selection.{capacity};
 ghost use Rattle.journal_prints.specs.Room.{room};
 ghost use Rattle.journal_effects.specs.Effects.{messageOf, targetsOf, effectText, isMissing, noEffect, linesText, effectsText};
 
-// `message` is how many bytes are sent, `targets` how many are those of the burst's targets; the bytes are lent.
+// `message` is how many bytes are sent, `targets` how many are those of the burst's targets; the bytes are lent. `took` is whether the circuit
+// took an established connection: an answer that no line is printed of.
 pub struct Effects {
     pub first: Effect,
     pub second: Effect,
@@ -22,6 +23,7 @@ pub struct Effects {
     pub fourth: Effect,
     pub message: usize,
     pub targets: usize,
+    pub took: bool,
 }
 
 // A circuit may say that its message is longer than the message's bytes.

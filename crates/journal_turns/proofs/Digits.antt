@@ -25,7 +25,7 @@ bytes-half (a ∷ b ∷ s) = go (isPair a b) (bytes-half s)
     go true h = omega arith
     go false h = omega arith
 
-digits-fit : (line : List ℕ) (start end : ℕ) → length line < 32768 → length (bytesOf (part line start end)) ≤ 16384
+digits-fit : (line : List ℕ) (start end : ℕ) {size : ℕ} → length line < 2 * size → length (bytesOf (part line start end)) ≤ size
 digits-fit line start end h =
     omega (arith, bytes-half (part line start end), length-take (end - start) (drop start line), length-drop start line)
 
@@ -56,18 +56,18 @@ module _ (line : List ℕ) (start end : ℕ) {e : ℕ} (m : e ≡ min end (lengt
       → (x ≡ printed o 0 (bytesOf (part line start end))) × (q ≡ behind o 0 (bytesOf (part line start end)))
   read-some o f = rw clipped at f
 
--- the bytes of a line that is not too long stand whole in 16,384
-module _ (line o : List ℕ) (start end : ℕ) {x : List ℕ} {n : ℕ} (f : (x ≡ printed o 0 (bytesOf (part line start end))) × (n ≡ behind o 0 (bytesOf (part line start end)))) (z : o ≡ replicate 16384 0) (h : length line < 32768) where
-  room : length o ≡ 16384
-  room = ap length z ∙ length-replicate {A = ℕ} 16384 0
+-- the bytes of a line stand whole in half its length
+module _ (line o : List ℕ) (start end : ℕ) {x : List ℕ} {n size : ℕ} (f : (x ≡ printed o 0 (bytesOf (part line start end))) × (n ≡ behind o 0 (bytesOf (part line start end)))) (z : o ≡ replicate size 0) (h : length line < 2 * size) where
+  room : length o ≡ size
+  room = ap length z ∙ length-replicate {A = ℕ} size 0
 
   fitting : length (bytesOf (part line start end)) ≤ length o
   fitting = omega (arith, digits-fit line start end h, room)
 
-  pub within : n ≤ 16384
+  pub within : n ≤ size
   within = omega (arith, f .1, fits-place o (bytesOf (part line start end)) fitting, digits-fit line start end h)
 
-  pub long : length x ≡ 16384
+  pub long : length x ≡ size
   long = length-kept (laid o 0 (bytesOf (part line start end)) f) ∙ room
 
   pub whole : take n x ≡ bytesOf (part line start end)

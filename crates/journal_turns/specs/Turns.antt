@@ -156,7 +156,7 @@ abbrev pub turned : Turn → (connect targets : List ℕ) → PathLedger → (wo
 turned t connect targets l words sent = record { journal = whole (t .state) connect targets l words sent; said = t .said; effects = t .effects }
 
 unfoldable pub noEffects : Effects
-noEffects = record { first = Nothing; second = Nothing; third = Nothing; fourth = Nothing; message = 0; targets = 0 }
+noEffects = record { first = Nothing; second = Nothing; third = Nothing; fourth = Nothing; message = 0; targets = 0; took = false }
 
 -- no effect that is printed
 unfoldable pub silent : Journal → Turned
@@ -173,7 +173,7 @@ naming j f = record { journal = j; said = said.Attributed f; effects = noEffects
 unfoldable pub saying : State → Said → Turn
 saying s x = record { state = s; said = x; effects = noEffects }
 
--- what a circuit decided, with the numbers of the bytes that belong to it
+-- what a circuit decided, with the numbers of the bytes that belong to it, and whether it took the connection
 unfoldable pub effectsOf : Decision → Effects
 effectsOf d =
     record {
@@ -183,6 +183,7 @@ effectsOf d =
       fourth = d .fourth;
       message = lengthOf (d .message);
       targets = d .core .targets;
+      took = d .took;
     }
 
 abbrev pub withCore : State → Core → State

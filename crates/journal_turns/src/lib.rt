@@ -100,6 +100,7 @@ fn no_effects() -> Effects
         fourth: Effect::Nothing,
         message: 0,
         targets: 0,
+        took: false,
     }
 }
 
@@ -131,6 +132,7 @@ fn effects_of(d: Decision) -> Effects
         fourth: fourth,
         message: size,
         targets: core.targets,
+        took: d.took,
     }
 }
 
@@ -171,12 +173,23 @@ fn read_digits(line: &[u8], digits: Digits, out: &mut [u8]) -> usize
 }
 
 // Room for the bytes of any line: two digits make one.
-type Bytes = [u8; 16384];
+type Bytes = [u8; lines::LONGEST / 2];
 
 fn zeros() -> Bytes
     ensures { λ r. ⌜ r ≡ replicate 16384 0 ⌝ }
 {
-    [0u8; 16384]
+    [0u8; lines::LONGEST / 2]
+}
+
+// Few lines are longer than this. The bytes of the others need less room, and to clear the room for any line takes as long as all else.
+const SHORT: usize = 4096;
+
+type FewBytes = [u8; SHORT / 2];
+
+fn few_zeros() -> FewBytes
+    ensures { λ r. ⌜ r ≡ replicate 2048 0 ⌝ }
+{
+    [0u8; SHORT / 2]
 }
 
 fn live_of(live: Maybe) -> Live
@@ -312,6 +325,11 @@ fn up_line(
     ensures words { λ r. ⌜ now (ledger .exit) ≡ laid (ledgerAfter (j .core .source) (tablesOf (now (ledger .entry))) (upOf (j .core) (hostOf at live offer) (digitsBytes (now (line .entry)) own) peer conn circuit .window)) (now (ledger .entry)) ⌝ }
 {
     let host = host_at(at, live, offer);
+    if line.len() < SHORT {
+        let mut few = few_zeros();
+        let m = read_digits(line, own, &mut few);
+        return up_turn(j, connect, sent, ledger, host, &few[..m], peer, conn, circuit);
+    }
     let mut list = zeros();
     let n = read_digits(line, own, &mut list);
     up_turn(
@@ -386,6 +404,13 @@ fn input_line(
     ensures reply { λ r. ⌜ now (reply .exit) ≡ inputTurn (whole j (now (connect .entry)) (now (targets .entry)) (tablesOf (now (ledger .entry))) (now (ledger .entry)) (now (sent .entry))) (hostOf at live offer) (digitsBytes (now (line .entry)) own) (now (reply .entry)) stream kind (digitsBytes (now (line .entry)) bytes) pending .reply ⌝ }
 {
     let host = host_at(at, live, offer);
+    if line.len() < SHORT {
+        let mut few = few_zeros();
+        let m = read_digits(line, own, &mut few);
+        let mut brought = few_zeros();
+        let l = read_digits(line, bytes, &mut brought);
+        return input_turn(j, connect, targets, sent, ledger, reply, host, &few[..m], stream, kind, &brought[..l], pending);
+    }
     let mut list = zeros();
     let n = read_digits(line, own, &mut list);
     let mut heard = zeros();
@@ -457,6 +482,11 @@ fn tick_line(
     ensures words { λ r. ⌜ now (ledger .exit) ≡ laid (expired (tickOf (j .core) (hostOf at live offer) (digitsBytes (now (line .entry)) own) .outcome) (ledgerAfter (j .core .source) (tablesOf (now (ledger .entry))) (tickOf (j .core) (hostOf at live offer) (digitsBytes (now (line .entry)) own) .window)) (hostOf at live offer .at)) (laid (ledgerAfter (j .core .source) (tablesOf (now (ledger .entry))) (tickOf (j .core) (hostOf at live offer) (digitsBytes (now (line .entry)) own) .window)) (now (ledger .entry))) ⌝ }
 {
     let host = host_at(at, live, offer);
+    if line.len() < SHORT {
+        let mut few = few_zeros();
+        let m = read_digits(line, own, &mut few);
+        return tick_turn(j, connect, sent, ledger, host, &few[..m]);
+    }
     let mut list = zeros();
     let n = read_digits(line, own, &mut list);
     tick_turn(j, connect, sent, ledger, host, &list[..n])

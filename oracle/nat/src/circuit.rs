@@ -146,6 +146,9 @@ pub(crate) struct Circuit {
     pub(crate) synced: bool,
     /// The repeat number of the last call's burst, 0 without one.
     pub(crate) times: u64,
+    /// What the last established connection's call answered: whether the
+    /// circuit took it. Cleared by the caller before each line.
+    pub(crate) took: bool,
 }
 
 const STOP_CONN: ConnectionId = ConnectionId(0);
@@ -176,6 +179,7 @@ impl Circuit {
             },
             synced: false,
             times: 0,
+            took: false,
         }
     }
 
@@ -263,8 +267,9 @@ impl Circuit {
         circuit: bool,
         answers: Answers,
     ) -> Vec<String> {
-        self.call(at, answers, 0, |machine, swarm, shared| {
-            machine.on_connection_established(
+        let mut took = false;
+        let out = self.call(at, answers, 0, |machine, swarm, shared| {
+            took = machine.on_connection_established(
                 &PeerId(peer),
                 ConnectionId(conn),
                 circuit,
@@ -272,7 +277,9 @@ impl Circuit {
                 shared,
                 now(at),
             );
-        })
+        });
+        self.took = took;
+        out
     }
 
     pub(crate) fn input(

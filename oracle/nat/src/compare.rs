@@ -126,9 +126,9 @@ pub fn count(kinds: &mut Kinds, answer: &[u8]) {
         let kind = match words[..] {
             ["refused", why, ..] => format!("refused {why}"),
             ["attributed", path, ..] => format!("attributed {path}"),
-            [n, next, promotes, claims] if n.starts_with("n=") => {
+            [n, next, promotes, claims, took] if n.starts_with("n=") => {
                 let next = if next == "next=none" { next } else { "next" };
-                format!("{next} {promotes} {claims}")
+                format!("{next} {promotes} {claims} {took}")
             }
             ["burst", times, ..] if past_loop(times) => "burst counted by closed form".to_string(),
             [first, ..] => first.split(['=', ':']).next().unwrap_or(first).to_string(),

@@ -92,15 +92,19 @@ pub fn run(input: &[u8], out: &mut impl Write) -> io::Result<()> {
 }
 
 /// Prints after each line, instead of its outputs, what the circuit answers
-/// then (docs/RULES.md, section 11.9).
+/// then (docs/RULES.md, section 11.9), and whether the line's call took an
+/// established connection (section 11.5).
 pub fn run_questions(input: &[u8], out: &mut impl Write) -> io::Result<()> {
     replay(input, out, |journal, line, n, out| {
         // Only the state that it leaves is wanted.
         let _ = journal.line(line);
         let (next, promotes, claims) = journal.circuit.questions();
         let next = next.map_or("none".to_string(), |next| next.to_string());
-        let [promotes, claims] = [promotes, claims].map(u8::from);
-        writeln!(out, "n={n} next={next} promotes={promotes} claims={claims}")
+        let [promotes, claims, took] = [promotes, claims, journal.circuit.took].map(u8::from);
+        writeln!(
+            out,
+            "n={n} next={next} promotes={promotes} claims={claims} took={took}"
+        )
     })
 }
 
@@ -263,6 +267,7 @@ impl Journal {
 
     /// Answers a line; `None` is one over the length or without a line feed.
     pub(crate) fn line(&mut self, line: Option<&[u8]>) -> Result<Vec<String>, u8> {
+        self.circuit.took = false;
         let (at, call) = line.and_then(call).ok_or(11)?;
         if let Some(why) = self.refusal(at, &call) {
             return Err(why);

@@ -23,9 +23,9 @@ same-length-2 c = search needs
 
 returns : tie.Need-returns
 returns c =
-    let a = c .before .before .before .before .before .before .before .before .before .before .before .before .before .before .before .before .before .before .args in
+    let a = c .before .before .before .before .before .before .before .before .before .before .before .before .before .before .before .before .before .before .before .args in
     line-answered (whole (a .j) (now (a .connect)) (now (a .targets)) (tablesOf (now (a .ledger))) (now (a .ledger)) (now (a .sent))) (now (a .reply)) (now (a .line))
-    (a .ended) (now (a .out)) _ (c .before .before .before .before .before .before .before .before .before .take-line .ensures) (c .before .before .before .before .ask .ensures) (c .before .before .put-answers .ensures)
+    (a .ended) (now (a .out)) _ (c .before .before .before .before .before .before .before .before .before .before .take-line .ensures) (c .before .before .before .before .ask .ensures) (c .before .before .put-answers .ensures)
 
 pub answer-line-spec : {M : Type 1} → statement M
 answer-line-spec =

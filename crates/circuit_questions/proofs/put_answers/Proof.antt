@@ -11,6 +11,9 @@ one-if-requires c κs = search needs
 one-if-requires-2 : tie.Need-one-if-requires-2
 one-if-requires-2 c κs = search needs
 
+one-if-requires-3 : tie.Need-one-if-requires-3
+one-if-requires-3 c κs = search needs
+
 slice-aggregate-put-number : tie.Need-slice-aggregate-put-number
 slice-aggregate-put-number c = search needs
 
@@ -32,6 +35,12 @@ slice-aggregate-put-number-3 c = search needs
 put-number-requires-3 : tie.Need-put-number-requires-3
 put-number-requires-3 c κs = search needs
 
+slice-aggregate-put-number-4 : tie.Need-slice-aggregate-put-number-4
+slice-aggregate-put-number-4 c = search needs
+
+put-number-requires-4 : tie.Need-put-number-requires-4
+put-number-requires-4 c κs = search needs
+
 slice-aggregate-put-text : tie.Need-slice-aggregate-put-text
 slice-aggregate-put-text c = search needs
 
@@ -42,7 +51,7 @@ same-length : tie.Need-same-length
 same-length c = search needs
 
 returns : tie.Need-returns
-returns c = parts (renamed (answers-text (c .before .before .before .before .before .before .before .before .before .before .before .before .before .before .before .before .before .before .before .before .before .before .before .before .before .before .before .args .n) (c .before .before .before .before .before .before .before .before .before .before .before .before .before .before .before .before .before .before .before .before .before .before .before .before .before .before .before .args .a) (c .before .before .before .before .before .before .before .before .before .before .before .before .before .before .before .before .before .before .before .before .before .before .before .before .before .one-if .ensures) (c .before .before .before .before .before .before .before .before .before .before .before .before .before .before .before .before .before .before .before .before .before .before .before .before .one-if2 .ensures)) (then (then (then (then (laid _ _ _ (c .before .before .before .before .before .before .before .before .before .before .before .before .before .before .before .before .before .before .before .before .before .put-number .ensures)) (laid _ _ _ (c .before .before .before .before .before .before .before .before .before .before .before .before .before .before .before .before .before .put-next .ensures))) (laid _ _ _ (c .before .before .before .before .before .before .before .before .before .before .before .before .put-number2 .ensures))) (laid _ _ _ (c .before .before .before .before .before .before .before .put-number3 .ensures))) (laid _ _ _ (c .before .before .put-text .ensures))))
+returns c = parts (renamed (answers-text (c .before .before .before .before .before .before .before .before .before .before .before .before .before .before .before .before .before .before .before .before .before .before .before .before .before .before .before .before .before .before .before .before .before .args .n) (c .before .before .before .before .before .before .before .before .before .before .before .before .before .before .before .before .before .before .before .before .before .before .before .before .before .before .before .before .before .before .before .before .before .args .a) (c .before .before .before .before .before .before .before .before .before .before .before .before .before .before .before .before .before .before .before .before .before .before .before .before .before .before .before .before .before .before .before .before .before .args .took) (c .before .before .before .before .before .before .before .before .before .before .before .before .before .before .before .before .before .before .before .before .before .before .before .before .before .before .before .before .before .before .before .one-if .ensures) (c .before .before .before .before .before .before .before .before .before .before .before .before .before .before .before .before .before .before .before .before .before .before .before .before .before .before .before .before .before .before .one-if2 .ensures) (c .before .before .before .before .before .before .before .before .before .before .before .before .before .before .before .before .before .before .before .before .before .before .before .before .before .before .before .before .before .one-if3 .ensures)) (then (then (then (then (then (laid _ _ _ (c .before .before .before .before .before .before .before .before .before .before .before .before .before .before .before .before .before .before .before .before .before .before .before .before .before .before .put-number .ensures)) (laid _ _ _ (c .before .before .before .before .before .before .before .before .before .before .before .before .before .before .before .before .before .before .before .before .before .before .put-next .ensures))) (laid _ _ _ (c .before .before .before .before .before .before .before .before .before .before .before .before .before .before .before .before .before .put-number2 .ensures))) (laid _ _ _ (c .before .before .before .before .before .before .before .before .before .before .before .before .put-number3 .ensures))) (laid _ _ _ (c .before .before .before .before .before .before .before .put-number4 .ensures))) (laid _ _ _ (c .before .before .put-text .ensures))))
 
 pub put-answers-spec : {M : Type 1} → statement M
 put-answers-spec =
@@ -50,6 +59,7 @@ put-answers-spec =
     (tie.spec
     one-if-requires
     one-if-requires-2
+    one-if-requires-3
     slice-aggregate-put-number
     put-number-requires
     put-next-requires
@@ -57,6 +67,8 @@ put-answers-spec =
     put-number-requires-2
     slice-aggregate-put-number-3
     put-number-requires-3
+    slice-aggregate-put-number-4
+    put-number-requires-4
     slice-aggregate-put-text
     put-text-requires
     same-length
