@@ -328,7 +328,17 @@ fn up_line(
     if line.len() < SHORT {
         let mut few = few_zeros();
         let m = read_digits(line, own, &mut few);
-        return up_turn(j, connect, sent, ledger, host, &few[..m], peer, conn, circuit);
+        return up_turn(
+            j,
+            connect,
+            sent,
+            ledger,
+            host,
+            &few[..m],
+            peer,
+            conn,
+            circuit,
+        );
     }
     let mut list = zeros();
     let n = read_digits(line, own, &mut list);
@@ -409,7 +419,20 @@ fn input_line(
         let m = read_digits(line, own, &mut few);
         let mut brought = few_zeros();
         let l = read_digits(line, bytes, &mut brought);
-        return input_turn(j, connect, targets, sent, ledger, reply, host, &few[..m], stream, kind, &brought[..l], pending);
+        return input_turn(
+            j,
+            connect,
+            targets,
+            sent,
+            ledger,
+            reply,
+            host,
+            &few[..m],
+            stream,
+            kind,
+            &brought[..l],
+            pending,
+        );
     }
     let mut list = zeros();
     let n = read_digits(line, own, &mut list);
