@@ -1,11 +1,11 @@
 -- What a journal's lines do (RULES.md, sections 12.4 to 12.7): the journal after a line, and what is said of the line.
-use Prim.Native.Nat.{ℕ, _+_, min}
+use Prim.Native.Nat.{ℕ}
 use mathlib.Core.Bool.{Bool, true, false}
 use mathlib.Core.List.{List}
 use lib.Dec.{ltb}
 use lib.ListN.{length, replicate}
 use Rattle.prelude.specs.Choice.{pick, both, no}
-use Rattle.text.specs.Decimal.{most}
+use Rattle.time.specs.Time.{plus}
 use Rattle.text.specs.Hexadecimal.{bytesOf}
 use Rattle.fields.specs.Fields.{part}
 use Rattle.fields.specs.declared.Maybe.{Maybe}
@@ -111,14 +111,11 @@ newJournal s =
       sent = noFrame;
     }
 
-abbrev pub oneMore : ℕ → ℕ
-oneMore n = min (n + 1) most
-
--- one line more (section 12.7)
+-- one line more; n stays at the largest number (section 12.7)
 unfoldable pub counted : Journal → Journal
 counted j =
     record {
-      n = oneMore (j .n);
+      n = plus (j .n) 1;
       begun = j .begun;
       settings = j .settings;
       circuit = j .circuit;

@@ -37,7 +37,7 @@ ghost use Rattle.ledger.specs.Ledger.{tablesOf, laid, dialStarted, forgotten, a
 ghost use Rattle.inbound.specs.Carried.{sentAfter, ledgerAfter, connectAfter};
 ghost use Rattle.inbound.specs.Calls.{startedOf, upOf, tickOf, wroteOf, downOf};
 ghost use Rattle.inbound.specs.Circuits.{noFrame, noAims};
-ghost use Rattle.journal_turns.specs.Turns.{longest, whole, stateOf, turned, noEffects, newJournal, oneMore, saying, effectsOf, settledIn, digitsBytes, liveOf, offerOf, hostOf, inputOf, startedIn, clearedBy, inputTurn, expired, claimFor, saidOf, namedAs, needsStart, callTurn, turnOf, lineTurn};
+ghost use Rattle.journal_turns.specs.Turns.{longest, whole, stateOf, turned, noEffects, newJournal, saying, effectsOf, settledIn, digitsBytes, liveOf, offerOf, hostOf, inputOf, startedIn, clearedBy, inputTurn, expired, claimFor, saidOf, namedAs, needsStart, callTurn, turnOf, lineTurn};
 
 // ---- the state
 
@@ -76,15 +76,6 @@ pub fn new_journal(settings: Settings) -> State
         settings: settings,
         core: core,
     }
-}
-
-fn one_more(n: u64) -> u64
-    ensures { λ r. ⌜ r ≡ oneMore n ⌝ }
-{
-    if n < u64::MAX {
-        return n + 1;
-    }
-    n
 }
 
 // ---- what is said
@@ -693,7 +684,7 @@ pub fn take_line(
     ensures reply { λ r. ⌜ now (reply .exit) ≡ lineTurn (whole j (now (connect .entry)) (now (targets .entry)) (tablesOf (now (ledger .entry))) (now (ledger .entry)) (now (sent .entry))) (now (reply .entry)) (now (line .entry)) ended .reply ⌝ }
 {
     let next = State {
-        n: one_more(j.n),
+        n: time::saturating_add(j.n, 1),
         ..j
     };
     if ended {
