@@ -12,7 +12,8 @@ use Rattle.text.proofs.Printing.{length-kept, fits, fits-place, full-place}
 use Rattle.line_program.specs.declared.Reading.{Reading}
 use Rattle.line_program.specs.Reads.{left, feed, Read, NextLine}
 use Rattle.journal_prints.specs.Room.{room}
-use Rattle.journal_turns.specs.Turns.{Journal, longest, lineTurn}
+use Rattle.lines.specs.Lines.{longest}
+use Rattle.journal_turns.specs.Turns.{Journal, lineTurn}
 use Rattle.journal_turns.specs.declared.State.{State as Numbers}
 use Rattle.journal_text.specs.Texts.{lineText}
 use Rattle.journal_text.specs.Journals.{cut, linesOf, linesText}

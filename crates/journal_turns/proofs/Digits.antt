@@ -12,6 +12,7 @@ use Rattle.prelude.specs.Choice.{pick}
 use Rattle.text.specs.Hexadecimal.{digitValue, isPair, bytesOf}
 use Rattle.text.specs.Printed.{printed, behind}
 use Rattle.text.proofs.Printing.{laid, parts, laid-none, length-kept, fits, fits-place}
+use Rattle.lines.specs.Lines.{longest}
 use Rattle.fields.specs.Fields.{part}
 
 -- two digits make a byte
@@ -25,7 +26,7 @@ bytes-half (a ∷ b ∷ s) = go (isPair a b) (bytes-half s)
     go true h = omega arith
     go false h = omega arith
 
-digits-fit : (line : List ℕ) (start end : ℕ) → length line < 32768 → length (bytesOf (part line start end)) ≤ 16384
+digits-fit : (line : List ℕ) (start end : ℕ) → length line < longest → length (bytesOf (part line start end)) ≤ 16384
 digits-fit line start end h =
     omega (arith, bytes-half (part line start end), length-take (end - start) (drop start line), length-drop start line)
 
@@ -57,7 +58,7 @@ module _ (line : List ℕ) (start end : ℕ) {e : ℕ} (m : e ≡ min end (lengt
   read-some o f = rw clipped at f
 
 -- the bytes of a line that is not too long stand whole in 16,384
-module _ (line o : List ℕ) (start end : ℕ) {x : List ℕ} {n : ℕ} (f : (x ≡ printed o 0 (bytesOf (part line start end))) × (n ≡ behind o 0 (bytesOf (part line start end)))) (z : o ≡ replicate 16384 0) (h : length line < 32768) where
+module _ (line o : List ℕ) (start end : ℕ) {x : List ℕ} {n : ℕ} (f : (x ≡ printed o 0 (bytesOf (part line start end))) × (n ≡ behind o 0 (bytesOf (part line start end)))) (z : o ≡ replicate 16384 0) (h : length line < longest) where
   room : length o ≡ 16384
   room = ap length z ∙ length-replicate {A = ℕ} 16384 0
 

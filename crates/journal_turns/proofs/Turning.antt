@@ -46,7 +46,8 @@ use Rattle.journal_lines.specs.declared.Line.{Line}
 use Rattle.journal_turns.specs.declared.State.{State}
 use Rattle.journal_turns.specs.declared.Turn.{Turn}
 use Rattle.journal_turns.specs.declared.Said.the-variants as said
-use Rattle.journal_turns.specs.Turns.{Journal, stateOf, whole, Turned, turned, silent, refused, naming, saying, effectsOf, settledIn, Leaves, settled, inputOf, startedBy, startTurn, startedIn, clearedBy, started, ledgerBy, upTurn, Taken, inputTurn, expired, tickTurn, wroteTurn, downTurn, saidOf, dialedBy, dialTurn, withLedger, forgetTurn, claimFor, namedBy, attributeTurn, namedAs, counted, apart, needsStart, callTurn, turnOf, longest, read, lineTurn}
+use Rattle.lines.specs.Lines.{longest}
+use Rattle.journal_turns.specs.Turns.{Journal, stateOf, whole, Turned, turned, silent, refused, naming, saying, effectsOf, settledIn, Leaves, settled, inputOf, startedBy, startTurn, startedIn, clearedBy, started, ledgerBy, upTurn, Taken, inputTurn, expired, tickTurn, wroteTurn, downTurn, saidOf, dialedBy, dialTurn, withLedger, forgetTurn, claimFor, namedBy, attributeTurn, namedAs, counted, apart, needsStart, callTurn, turnOf, read, lineTurn}
 
 -- ---- what a refused decision leaves
 

@@ -7,6 +7,7 @@ use lib.ListN.{length, replicate}
 use Rattle.prelude.specs.Choice.{pick, both, no}
 use Rattle.time.specs.Time.{plus}
 use Rattle.text.specs.Hexadecimal.{bytesOf}
+use Rattle.lines.specs.Lines.{longest}
 use Rattle.fields.specs.Fields.{part}
 use Rattle.fields.specs.declared.Maybe.{Maybe}
 use Rattle.fields.specs.declared.Pair.{Pair}
@@ -411,10 +412,6 @@ needsStart Unknown = false
 unfoldable pub turnOf : List ℕ → Journal → List ℕ → Line → Taken
 turnOf line j reply call =
     pick (both (needsStart call) (no (j .begun))) (apart reply (refused j NotStarted)) (callTurn line j reply call)
-
--- the bytes of the longest line, with its line feed (section 12.1)
-abbrev pub longest : ℕ
-longest = 32768
 
 -- what a line says: nothing known without a line feed, or where it is too long with it
 unfoldable pub read : List ℕ → Bool → Line

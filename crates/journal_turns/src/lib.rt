@@ -37,7 +37,8 @@ ghost use Rattle.ledger.specs.Ledger.{tablesOf, laid, dialStarted, forgotten, a
 ghost use Rattle.inbound.specs.Carried.{sentAfter, ledgerAfter, connectAfter};
 ghost use Rattle.inbound.specs.Calls.{startedOf, upOf, tickOf, wroteOf, downOf};
 ghost use Rattle.inbound.specs.Circuits.{noFrame, noAims};
-ghost use Rattle.journal_turns.specs.Turns.{longest, whole, stateOf, turned, noEffects, newJournal, saying, effectsOf, settledIn, digitsBytes, liveOf, offerOf, hostOf, inputOf, startedIn, clearedBy, inputTurn, expired, claimFor, saidOf, namedAs, needsStart, callTurn, turnOf, lineTurn};
+ghost use Rattle.lines.specs.Lines.{longest};
+ghost use Rattle.journal_turns.specs.Turns.{whole, stateOf, turned, noEffects, newJournal, saying, effectsOf, settledIn, digitsBytes, liveOf, offerOf, hostOf, inputOf, startedIn, clearedBy, inputTurn, expired, claimFor, saidOf, namedAs, needsStart, callTurn, turnOf, lineTurn};
 
 // ---- the state
 

@@ -1,6 +1,6 @@
 use lib.Dec.{ltb}
 use lib.ListN.{length}
-use Rattle.journal_turns.specs.Turns.{longest}
+use Rattle.lines.specs.Lines.{longest}
 use denote.Ref.{now}
 use Rattle.journal_turns.proofs.Turning.{unread-line, both-false, none-false}
 use Rattle.journal_turns.specs.Turns.{counted, read, turnOf, lineTurn}
