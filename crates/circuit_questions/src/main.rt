@@ -244,8 +244,8 @@ fn replay(
 
 fn main() {
     let mut block = io::large_buffer();
-    let mut line = [0u8; 32768];
-    let mut reply = [0u8; 4098];
+    let mut line = [0u8; lines::LONGEST];
+    let mut reply = [0u8; wire::MAX_FRAME_SIZE];
     let mut out = io::large_buffer();
     let mut connect = frames::blank();
     let mut sent = frames::blank();

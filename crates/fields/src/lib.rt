@@ -5,7 +5,8 @@ ghost use mathlib.Core.List.{List, _++_};
 ghost use Prim.Native.Nat.{ℕ, _+_, _≤_};
 ghost use lib.ListN.{length, drop};
 ghost use Rattle.text.specs.Words.{lengthBefore};
-ghost use Rattle.text.specs.Decimal.{most, decimal};
+ghost use Rattle.prelude.specs.Numbers.{maxU64};
+ghost use Rattle.text.specs.Decimal.{decimal};
 ghost use Rattle.text.specs.Hexadecimal.{bytesText};
 ghost use Rattle.text.specs.Printed.{printed, behind};
 ghost use Rattle.fields.specs.Values.{maybeOf, pairOf};
@@ -229,7 +230,7 @@ pub fn put_bytes(key: &[u8], bytes: &[u8], out: &mut [u8], at: usize) -> usize
 
 // A number field is read where its key and its number's text stand before a space or the line's end, and nowhere else.
 pub fn number_round_trip()
-    ensures read { λ r. ⌜ ((line key rest : List ℕ) (at v : ℕ) → at ≤ length line → v ≤ most → lengthBefore 32 rest ≡ 0
+    ensures read { λ r. ⌜ ((line key rest : List ℕ) (at v : ℕ) → at ≤ length line → v ≤ maxU64 → lengthBefore 32 rest ≡ 0
         → drop at line ≡ key ++ decimal v ++ rest
         → numberAt line key at ≡ NumberField.At v (at + length key + length (decimal v))) ⌝ }
     ensures only { λ r. ⌜ ((line key : List ℕ) (at v next : ℕ) → numberAt line key at ≡ NumberField.At v next

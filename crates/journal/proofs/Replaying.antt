@@ -10,6 +10,7 @@ use Rattle.prelude.specs.Choice.{pick}
 use Rattle.text.specs.Printed.{printed, behind}
 use Rattle.text.proofs.Printing.{laid-none, fits}
 use Rattle.refusal.specs.declared.Refusal.the-variants.{UnknownLine}
+use Rattle.wire.specs.Frame.{maxFrameSize}
 use Rattle.line_program.specs.declared.Reading.{Reading}
 use Rattle.line_program.specs.Reads.{left, feed, Read, NextLine}
 use Rattle.journal_lines.specs.declared.First.{First}
@@ -17,7 +18,8 @@ use Rattle.journal_prints.specs.Room.{room, isRefused}
 use Rattle.journal_prints.proofs.Room.{short}
 use Rattle.ledger.specs.Ledger.{PathLedger, tablesOf, emptyLedger}
 use Rattle.lent.specs.Carried.{noFrame, noAims}
-use Rattle.journal_turns.specs.Turns.{Journal, stateOf, whole, newJournal, longest}
+use Rattle.lines.specs.Lines.{longest}
+use Rattle.journal_turns.specs.Turns.{Journal, stateOf, whole, newJournal}
 use Rattle.journal_turns.specs.declared.State.{State as Numbers}
 use Rattle.journal_text.specs.Texts.{firstOf, isGood, opened, openingText}
 use Rattle.journal_text.specs.Journals.{cut, linesOf, linesText, opening, textOf, journalText}
@@ -72,7 +74,7 @@ bad-text [] n = rw n
 bad-text (l ∷ rest) n = rw n
 
 good-text : (l : Line) (rest : List Line) → isGood (firstOf (l .0) (l .1)) ≡ true
-    → textOf (l ∷ rest) ≡ linesText (opened (firstOf (l .0) (l .1))) (replicate 4098 0) rest
+    → textOf (l ∷ rest) ≡ linesText (opened (firstOf (l .0) (l .1))) (replicate maxFrameSize 0) rest
 unfolding opening
 good-text l rest n = rw n
 
@@ -87,7 +89,7 @@ blank-lent {connect} {targets} {sent} {ws} a b c d e f =
     ∙ ap (λ (x : PathLedger). whole (stateOf (opened f)) noFrame noAims x ws noFrame) e
     ∙ ap (λ (x : List ℕ). whole (stateOf (opened f)) noFrame noAims emptyLedger x noFrame) d
 
-module _ (reply out : List ℕ) (zero : reply ≡ replicate 4098 0) (ho : 4 * room ≤ length out) (lent : Numbers → Journal)
+module _ (reply out : List ℕ) (zero : reply ≡ replicate maxFrameSize 0) (ho : 4 * room ≤ length out) (lent : Numbers → Journal)
     (blank : (f : First) → lent (stateOf (opened f)) ≡ opened f) {line block line′ : List ℕ} {r : Reading} (x : NextLine line [] block line′ r) (hl : longest ≤ length line) where
   abbrev read : Read line 0 [] block line′ r
   read = x .read

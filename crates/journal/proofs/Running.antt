@@ -7,12 +7,13 @@ use native.Mathlib.Omega.{arith}
 use lib.Dec.{ltb}
 use lib.ListN.{length, take, length-append, length-take}
 use borrow.Author.Tests.{ltb-true, ltb-false}
-use Rattle.text.specs.Decimal.{most}
+use Rattle.prelude.specs.Numbers.{maxU64}
 use Rattle.text.proofs.Printing.{length-kept, fits, fits-place, full-place}
 use Rattle.line_program.specs.declared.Reading.{Reading}
 use Rattle.line_program.specs.Reads.{left, feed, Read, NextLine}
 use Rattle.journal_prints.specs.Room.{room}
-use Rattle.journal_turns.specs.Turns.{Journal, longest, lineTurn}
+use Rattle.lines.specs.Lines.{longest}
+use Rattle.journal_turns.specs.Turns.{Journal, lineTurn}
 use Rattle.journal_turns.specs.declared.State.{State as Numbers}
 use Rattle.journal_text.specs.Texts.{lineText}
 use Rattle.journal_text.specs.Journals.{cut, linesOf, linesText}
@@ -71,7 +72,7 @@ pub record Open (before : State) (had rest : List ℕ) (j : Journal) (reply out 
   pub text : put (state j reply out w handed) ≡ linesText (before .journal) (before .reply) lines
   pub ended : (r : List ℕ) → linesOf (bytesOf lines ++ r) ≡ lines ++ linesOf r
   pub given : v ≡ false → handed ≡ [] → ⊥
-  pub counted : most ≤ turns + length (bytesOf lines)
+  pub counted : maxU64 ≤ turns + length (bytesOf lines)
 
 -- the last reading met no line feed
 pub record Closed (before : State) (had rest : List ℕ) (j : Journal) (reply out : List ℕ) (w : ℕ) (v : Bool) (r : Reading) : Type 0 where
@@ -97,7 +98,7 @@ open-cut : {before : State} {had rest : List ℕ} {j : Journal} {reply out : Lis
 unfolding cut
 open-cut o = ap linesOf (sym (append-nil (bytesOf (o .lines)))) ∙ o .ended [] ∙ append-nil (o .lines)
 
-pub begin : (j : Journal) (reply out had : List ℕ) (turns : ℕ) → most ≤ turns → Open (state j reply out 0 []) had had j reply out 0 true turns
+pub begin : (j : Journal) (reply out had : List ℕ) (turns : ℕ) → maxU64 ≤ turns → Open (state j reply out 0 []) had had j reply out 0 true turns
 unfolding bytesOf taken linesText
 begin j reply out had turns h =
     record { brought = []; lines = []; handed = []; whole = append-nil had; stood = refl; text = refl; ended = λ r. refl; given = λ f _. apart f; counted = omega arith }

@@ -5,12 +5,14 @@ ghost use Prim.Native.Nat.{_+_, _*_, _≤_};
 ghost use lib.Dec.{leb};
 ghost use lib.ListN.{length, take, replicate};
 ghost use mathlib.Core.List.{[], _++_};
+ghost use Rattle.wire.specs.Frame.{maxFrameSize};
 ghost use Rattle.line_program.specs.Reads.{left, NextLine};
 ghost use Rattle.journal_prints.specs.Room.{room};
 ghost use Rattle.ledger.specs.Ledger.{tablesOf, emptyLedger};
 ghost use Rattle.lent.specs.Carried.{noFrame, noAims};
 ghost use Rattle.journal_turns.specs.declared.State.{State as Numbers};
-ghost use Rattle.journal_turns.specs.Turns.{whole, longest};
+ghost use Rattle.lines.specs.Lines.{longest};
+ghost use Rattle.journal_turns.specs.Turns.{whole};
 ghost use Rattle.journal.specs.Steps.{isLine, waitingAfter, state, stepOf, stepText};
 ghost use Rattle.journal.specs.Runs.{Ran, Replayed};
 use frames::FrameBytes;
@@ -230,7 +232,7 @@ fn replay(
     reply: &mut [u8],
     out: &mut [u8],
 ) -> Ending
-    requires { ⌜ (longest ≤ length (now line)) × (4 * room ≤ length (now out)) × (now reply ≡ replicate 4098 0) × (now connect ≡ noFrame) × (now targets ≡ noAims) × (now sent ≡ noFrame) × (now ledger ≡ replicate 963 0) × (tablesOf (now ledger) ≡ emptyLedger) ⌝ }
+    requires { ⌜ (longest ≤ length (now line)) × (4 * room ≤ length (now out)) × (now reply ≡ replicate maxFrameSize 0) × (now connect ≡ noFrame) × (now targets ≡ noAims) × (now sent ≡ noFrame) × (now ledger ≡ replicate 963 0) × (tablesOf (now ledger) ≡ emptyLedger) ⌝ }
     ensures bound { λ r. ⌜ r .waiting ≤ length (now (out .entry)) ⌝ }
     ensures replayed { λ r. ⌜ Replayed (now (reply .entry)) (now (out .entry)) (now (block .exit)) (λ (s : Numbers). whole s (now (connect .exit)) (now (targets .exit)) (tablesOf (now (ledger .exit))) (now (ledger .exit)) (now (sent .exit))) (now (reply .exit)) (now (out .exit)) r ⌝ }
 {
@@ -268,8 +270,8 @@ fn replay(
 
 fn main() {
     let mut block = io::large_buffer();
-    let mut line = [0u8; 32768];
-    let mut reply = [0u8; 4098];
+    let mut line = [0u8; lines::LONGEST];
+    let mut reply = [0u8; wire::MAX_FRAME_SIZE];
     let mut out = io::large_buffer();
     let mut connect = frames::blank();
     let mut sent = frames::blank();

@@ -7,7 +7,7 @@ use lib.ListN.{length, take, length-take, length-append}
 use lib.Seq.{take-all}
 use Rattle.text.specs.Printed.{printed, behind}
 use Rattle.text.proofs.Printing.{Laid, laid-none, parts, then}
-use Rattle.text.specs.Decimal.{most}
+use Rattle.prelude.specs.Numbers.{maxU64}
 use Rattle.ids.specs.declared.ConnectionId.{ConnectionId}
 use Rattle.ids.specs.declared.StreamId.{StreamId}
 use Rattle.frames.specs.Sent.{frameCapacity}
@@ -20,11 +20,11 @@ use Rattle.journal_effects.specs.Effects.{messageOf, targetsOf}
 within : (n m : ℕ) (s : List ℕ) → length (take (min n m) s) ≤ m
 within n m s = omega (arith, length-take (min n m) s)
 
-pub send-short : (n : ℕ) (conn : ConnectionId) (stream : StreamId) (len : ℕ) (sent : List ℕ) → n ≤ most → conn .0 ≤ most → stream .0 ≤ most
+pub send-short : (n : ℕ) (conn : ConnectionId) (stream : StreamId) (len : ℕ) (sent : List ℕ) → n ≤ maxU64 → conn .0 ≤ maxU64 → stream .0 ≤ maxU64
     → length (sendText n conn stream (messageOf len sent)) ≤ room
 send-short n conn stream len sent hn hc hs = short (isSend n conn stream (messageOf len sent) hn hc hs (within len frameCapacity sent))
 
-pub burst-short : (n times payload len : ℕ) (aims : List ℕ) → n ≤ most → times ≤ most → payload ≤ most
+pub burst-short : (n times payload len : ℕ) (aims : List ℕ) → n ≤ maxU64 → times ≤ maxU64 → payload ≤ maxU64
     → length (burstText n times payload (targetsOf len aims)) ≤ room
 burst-short n times payload len aims hn ht hp = short (isBurst n times payload (targetsOf len aims) hn ht hp (within len capacity aims))
 

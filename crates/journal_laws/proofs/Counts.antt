@@ -4,6 +4,7 @@ use mathlib.Core.Path.{_≡_, refl}
 use mathlib.Core.Bool.{Bool, true, false}
 use mathlib.Core.List.{List}
 use Rattle.prelude.specs.Choice.{pick, both, no}
+use Rattle.time.specs.Time.{plus}
 use Rattle.refusal.specs.declared.Refusal.the-variants.{NotStarted}
 use Rattle.path.specs.declared.DialPurpose.the-variants.{Punch}
 use Rattle.ledger.specs.declared.Answer.{Answer as Naming}
@@ -77,5 +78,5 @@ module _ (j : Journal) where
       go false = call-n line reply call
 
 pub counts : EveryLineCounts
-unfolding lineTurn counted
+unfolding lineTurn counted plus
 counts j reply line ended = turn-n (counted j) line reply (read line ended)

@@ -5,7 +5,7 @@ use Prim.Native.Nat.{ℕ, _≤_}
 use native.Mathlib.Omega.{arith}
 use lib.ListN.{length, drop, length-drop}
 use Rattle.text.specs.Words.{ascii, begins, lengthBefore}
-use Rattle.text.specs.Decimal.{most}
+use Rattle.prelude.specs.Numbers.{maxU64}
 use Rattle.fields.specs.Fields.{keyed, numberAt}
 use Rattle.fields.specs.Line.{number, ends}
 use Rattle.fields.proofs.Chain.{number-good, at-end}
@@ -30,7 +30,7 @@ nothing : lengthBefore 32 [] ≡ 0
 unfolding lengthBefore
 nothing = refl
 
-module _ {s : List ℕ} {p : ℕ} (key : List ℕ) (v : ℕ) (m : v ≤ most) (k : ℕ → ℕ → Line) where
+module _ {s : List ℕ} {p : ℕ} (key : List ℕ) (v : ℕ) (m : v ≤ maxU64) (k : ℕ → ℕ → Line) where
   before : (rest : List ℕ) → lengthBefore 32 rest ≡ 0 → Stands s p (keyed key v ++ rest) → {l : Line} → ((q : ℕ) → Stands s q rest → l ≡ k v q) → l ≡ number Unknown (numberAt s key p) k
   before rest z st f =
       number-good Unknown k refl (field-read s key p v rest (st .0) (st .1) z m)

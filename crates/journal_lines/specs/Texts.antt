@@ -3,7 +3,7 @@ use Prim.Native.Nat.{ℕ, _≤_}
 use mathlib.Core.Path.{_≡_}
 use mathlib.Core.List.{List, _++_}
 use Rattle.text.specs.Words.{ascii}
-use Rattle.text.specs.Decimal.{most}
+use Rattle.prelude.specs.Numbers.{maxU64}
 use Rattle.fields.specs.Fields.{keyed}
 use Rattle.journal_lines.specs.Lines.{lineOf}
 use Rattle.journal_lines.specs.declared.Line.the-variants.{Start, Wrote, Down, Dial, Forget}
@@ -26,19 +26,19 @@ forgetText at conn = keyed (ascii "do=forget at=") at ++ keyed (ascii " conn=") 
 
 abbrev pub StartIsRead : Type 0
 StartIsRead =
-    (at source relay circuit : ℕ) → at ≤ most → source ≤ most → relay ≤ most → circuit ≤ most
+    (at source relay circuit : ℕ) → at ≤ maxU64 → source ≤ maxU64 → relay ≤ maxU64 → circuit ≤ maxU64
     → lineOf (startText at source relay circuit) ≡ Start at (record { 0 = source }) (record { 0 = relay }) (record { 0 = circuit })
 
 abbrev pub WroteIsRead : Type 0
-WroteIsRead = (at conn stream : ℕ) → at ≤ most → conn ≤ most → stream ≤ most → lineOf (wroteText at conn stream) ≡ Wrote at (record { 0 = conn }) (record { 0 = stream })
+WroteIsRead = (at conn stream : ℕ) → at ≤ maxU64 → conn ≤ maxU64 → stream ≤ maxU64 → lineOf (wroteText at conn stream) ≡ Wrote at (record { 0 = conn }) (record { 0 = stream })
 
 abbrev pub DownIsRead : Type 0
-DownIsRead = (at peer conn : ℕ) → at ≤ most → peer ≤ most → conn ≤ most → lineOf (downText at peer conn) ≡ Down at (record { 0 = peer }) (record { 0 = conn })
+DownIsRead = (at peer conn : ℕ) → at ≤ maxU64 → peer ≤ maxU64 → conn ≤ maxU64 → lineOf (downText at peer conn) ≡ Down at (record { 0 = peer }) (record { 0 = conn })
 
 abbrev pub DialIsRead : Type 0
 DialIsRead =
-    (at conn token id : ℕ) → at ≤ most → conn ≤ most → token ≤ most → id ≤ most
+    (at conn token id : ℕ) → at ≤ maxU64 → conn ≤ maxU64 → token ≤ maxU64 → id ≤ maxU64
     → lineOf (dialText at conn token id) ≡ Dial at (record { 0 = conn }) (record { 0 = token }) (record { 0 = id })
 
 abbrev pub ForgetIsRead : Type 0
-ForgetIsRead = (at conn : ℕ) → at ≤ most → conn ≤ most → lineOf (forgetText at conn) ≡ Forget at (record { 0 = conn })
+ForgetIsRead = (at conn : ℕ) → at ≤ maxU64 → conn ≤ maxU64 → lineOf (forgetText at conn) ≡ Forget at (record { 0 = conn })

@@ -8,7 +8,8 @@ use lib.Dec.{ltb, eqb}
 use lib.ListN.{length, take, drop, length-append, length-take, length-drop}
 use borrow.Author.Tests.{ltb-true, ltb-false}
 use Rattle.prelude.specs.Choice.{pick}
-use Rattle.text.specs.Decimal.{most, decimal}
+use Rattle.prelude.specs.Numbers.{maxU64}
+use Rattle.text.specs.Decimal.{decimal}
 use Rattle.text.specs.Hexadecimal.{hexadecimal, bytesText}
 use Rattle.text.proofs.Printing.{one, more, fits}
 use Rattle.wire.specs.Lists.{sizeAt, opens, along, entries}
@@ -37,7 +38,7 @@ digits-most (suc k) v h = go (ltb v 10) refl (λ l. digits-most k (v / 10) (omeg
         let l : 10 ≤ v = ltb-false _ _ e in
         rw (more v l) (omega (arith, length-append (decimal (v / 10)) ((48 + v % 10) ∷ []), f l))
 
-number-most : (v : ℕ) → v ≤ most → length (decimal v) ≤ 20
+number-most : (v : ℕ) → v ≤ maxU64 → length (decimal v) ≤ 20
 number-most v h = digits-most 19 v (omega arith)
 
 hexadecimal-length : (s : List ℕ) → length (hexadecimal s) ≡ 2 * length s
@@ -88,7 +89,7 @@ owner-most (owner-of.Attempt id) h = number-most (id .0) (h id refl)
 owner-most owner-of.Inbound h = omega arith
 owner-most owner-of.None h = omega arith
 
-refusal-most : (why : Refusal) → numberOf why ≤ most
+refusal-most : (why : Refusal) → numberOf why ≤ maxU64
 refusal-most refusal.ReplyBufferTooShort = omega arith
 refusal-most refusal.OfferInUse = omega arith
 refusal-most refusal.HandshakeTooLate = omega arith

@@ -4,7 +4,7 @@ use Prim.Native.Nat.{ℕ, _≤_}
 use mathlib.Core.Path.{_≡_}
 use mathlib.Core.List.{List, _++_}
 use lib.ListN.{length, take}
-use Rattle.text.specs.Decimal.{most}
+use Rattle.prelude.specs.Numbers.{maxU64}
 use Rattle.text.specs.Printed.{printed, behind}
 use Rattle.refusal.specs.declared.Refusal.{Refusal}
 use Rattle.ids.specs.declared.PeerId.{PeerId}
@@ -21,22 +21,22 @@ room = 497
 
 -- an owner's number is of 64 bits
 abbrev pub OwnerFits : Owner → Type 0
-OwnerFits owner = (id : ConnectId) → owner ≡ Attempt id → id .0 ≤ most
+OwnerFits owner = (id : ConnectId) → owner ≡ Attempt id → id .0 ≤ maxU64
 
 -- the texts that are printed
 pub data Output : List ℕ → Type 0 where
-  isNone : (n : ℕ) → n ≤ most → Output (noneText n)
-  isPath : (n : ℕ) (peer relay : PeerId) (conn : ConnectionId) → n ≤ most → peer .0 ≤ most → relay .0 ≤ most → conn .0 ≤ most → Output (pathText n peer relay conn)
-  isOpen : (n : ℕ) (conn : ConnectionId) (stream : StreamId) → n ≤ most → conn .0 ≤ most → stream .0 ≤ most → Output (openText n conn stream)
-  isSend : (n : ℕ) (conn : ConnectionId) (stream : StreamId) (message : List ℕ) → n ≤ most → conn .0 ≤ most → stream .0 ≤ most → length message ≤ 156
+  isNone : (n : ℕ) → n ≤ maxU64 → Output (noneText n)
+  isPath : (n : ℕ) (peer relay : PeerId) (conn : ConnectionId) → n ≤ maxU64 → peer .0 ≤ maxU64 → relay .0 ≤ maxU64 → conn .0 ≤ maxU64 → Output (pathText n peer relay conn)
+  isOpen : (n : ℕ) (conn : ConnectionId) (stream : StreamId) → n ≤ maxU64 → conn .0 ≤ maxU64 → stream .0 ≤ maxU64 → Output (openText n conn stream)
+  isSend : (n : ℕ) (conn : ConnectionId) (stream : StreamId) (message : List ℕ) → n ≤ maxU64 → conn .0 ≤ maxU64 → stream .0 ≤ maxU64 → length message ≤ 156
       → Output (sendText n conn stream message)
-  isReset : (n : ℕ) (conn : ConnectionId) (stream : StreamId) → n ≤ most → conn .0 ≤ most → stream .0 ≤ most → Output (resetText n conn stream)
-  isBurst : (n times payload : ℕ) (targets : List ℕ) → n ≤ most → times ≤ most → payload ≤ most → length targets ≤ 200 → Output (burstText n times payload targets)
-  isClose : (n : ℕ) (conn : ConnectionId) → n ≤ most → conn .0 ≤ most → Output (closeText n conn)
-  isUpgrade : (n : ℕ) (peer : PeerId) (old new : ConnectionId) → n ≤ most → peer .0 ≤ most → old .0 ≤ most → new .0 ≤ most → Output (upgradeText n peer old new)
-  isAttributed : (n : ℕ) (a : Attribution) → n ≤ most → OwnerFits (a .owner) → Output (attributionText n a)
-  isUnattributed : (n : ℕ) → n ≤ most → Output (unattributedText n)
-  isRefused : (n : ℕ) (why : Refusal) → n ≤ most → Output (refusedText n why)
+  isReset : (n : ℕ) (conn : ConnectionId) (stream : StreamId) → n ≤ maxU64 → conn .0 ≤ maxU64 → stream .0 ≤ maxU64 → Output (resetText n conn stream)
+  isBurst : (n times payload : ℕ) (targets : List ℕ) → n ≤ maxU64 → times ≤ maxU64 → payload ≤ maxU64 → length targets ≤ 200 → Output (burstText n times payload targets)
+  isClose : (n : ℕ) (conn : ConnectionId) → n ≤ maxU64 → conn .0 ≤ maxU64 → Output (closeText n conn)
+  isUpgrade : (n : ℕ) (peer : PeerId) (old new : ConnectionId) → n ≤ maxU64 → peer .0 ≤ maxU64 → old .0 ≤ maxU64 → new .0 ≤ maxU64 → Output (upgradeText n peer old new)
+  isAttributed : (n : ℕ) (a : Attribution) → n ≤ maxU64 → OwnerFits (a .owner) → Output (attributionText n a)
+  isUnattributed : (n : ℕ) → n ≤ maxU64 → Output (unattributedText n)
+  isRefused : (n : ℕ) (why : Refusal) → n ≤ maxU64 → Output (refusedText n why)
 
 -- four texts, printed one behind the other from the buffer's first byte, stand there whole
 abbrev pub Whole : List ℕ → List ℕ → List ℕ → List ℕ → List ℕ → Type 0

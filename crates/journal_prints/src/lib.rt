@@ -177,7 +177,7 @@ fn put_path_word(path: Path, out: &mut [u8], at: usize) -> usize
     }
 }
 
-fn put_owner_word(owner: Owner, out: &mut [u8], at: usize) -> usize
+pub fn put_owner_word(owner: Owner, out: &mut [u8], at: usize) -> usize
     ensures bytes { λ r. ⌜ now (out .exit) ≡ printed (now (out .entry)) at (ownerWord owner) ⌝ }
     ensures place { λ r. ⌜ r ≡ behind (now (out .entry)) at (ownerWord owner) ⌝ }
 {

@@ -7,8 +7,10 @@ use lib.Dec.{eqb, ltb}
 use lib.ListN.{length, take, drop, replicate}
 use Rattle.prelude.specs.Choice.{pick}
 use Rattle.text.specs.Words.{lengthBefore}
+use Rattle.wire.specs.Frame.{maxFrameSize}
 use Rattle.journal_lines.specs.declared.First.{First}
-use Rattle.journal_turns.specs.Turns.{Journal, longest, lineTurn}
+use Rattle.lines.specs.Lines.{longest}
+use Rattle.journal_turns.specs.Turns.{Journal, lineTurn}
 use Rattle.journal_text.specs.Texts.{firstOf, isGood, opened, openingText, lineText}
 
 -- the first n lines of an input, each without its line feed, and whether it has one (section 12.1): a line goes up to its line feed, the
@@ -31,7 +33,7 @@ linesText j reply (l ∷ rest) =
 
 -- the reply buffer has 4,098 bytes, zero at first (section 12.5)
 unfoldable pub opening : First → List (List ℕ × Bool) → List ℕ
-opening f rest = pick (isGood f) (linesText (opened f) (replicate 4098 0) rest) (openingText f)
+opening f rest = pick (isGood f) (linesText (opened f) (replicate maxFrameSize 0) rest) (openingText f)
 
 -- an input without a line has no good first line
 abbrev pub textOf : List (List ℕ × Bool) → List ℕ

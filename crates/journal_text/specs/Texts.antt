@@ -12,7 +12,8 @@ use Rattle.journal_lines.specs.declared.First.{First}
 use Rattle.journal_prints.specs.Outputs.{attributedText, refusedText}
 use Rattle.journal_effects.specs.Effects.{effectsText}
 use Rattle.journal_effects.specs.declared.Effects.{Effects}
-use Rattle.journal_turns.specs.Turns.{Journal, Turned, newJournal, longest, lineTurn}
+use Rattle.lines.specs.Lines.{longest}
+use Rattle.journal_turns.specs.Turns.{Journal, Turned, newJournal, lineTurn}
 use Rattle.journal_turns.specs.declared.Said.{Said}
 use Rattle.journal_lines.specs.declared.First.the-variants as first
 use Rattle.journal_turns.specs.declared.Said.the-variants as said

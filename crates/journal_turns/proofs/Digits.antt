@@ -12,6 +12,7 @@ use Rattle.prelude.specs.Choice.{pick}
 use Rattle.text.specs.Hexadecimal.{digitValue, isPair, bytesOf}
 use Rattle.text.specs.Printed.{printed, behind}
 use Rattle.text.proofs.Printing.{laid, parts, laid-none, length-kept, fits, fits-place}
+use Rattle.lines.specs.Lines.{longest}
 use Rattle.fields.specs.Fields.{part}
 
 -- two digits make a byte
@@ -25,8 +26,8 @@ bytes-half (a ∷ b ∷ s) = go (isPair a b) (bytes-half s)
     go true h = omega arith
     go false h = omega arith
 
-digits-fit : (line : List ℕ) (start end : ℕ) {size : ℕ} → length line < 2 * size → length (bytesOf (part line start end)) ≤ size
-digits-fit line start end h =
+digits-fit : (line : List ℕ) (start end size : ℕ) → length line < 2 * size → length (bytesOf (part line start end)) ≤ size
+digits-fit line start end size h =
     omega (arith, bytes-half (part line start end), length-take (end - start) (drop start line), length-drop start line)
 
 -- a place that ends past the line ends with it
@@ -57,15 +58,15 @@ module _ (line : List ℕ) (start end : ℕ) {e : ℕ} (m : e ≡ min end (lengt
   read-some o f = rw clipped at f
 
 -- the bytes of a line stand whole in half its length
-module _ (line o : List ℕ) (start end : ℕ) {x : List ℕ} {n size : ℕ} (f : (x ≡ printed o 0 (bytesOf (part line start end))) × (n ≡ behind o 0 (bytesOf (part line start end)))) (z : o ≡ replicate size 0) (h : length line < 2 * size) where
+module _ (line o : List ℕ) (start end : ℕ) (size : ℕ) {x : List ℕ} {n : ℕ} (f : (x ≡ printed o 0 (bytesOf (part line start end))) × (n ≡ behind o 0 (bytesOf (part line start end)))) (z : o ≡ replicate size 0) (h : length line < 2 * size) where
   room : length o ≡ size
   room = ap length z ∙ length-replicate {A = ℕ} size 0
 
   fitting : length (bytesOf (part line start end)) ≤ length o
-  fitting = omega (arith, digits-fit line start end h, room)
+  fitting = omega (arith, digits-fit line start end size h, room)
 
   pub within : n ≤ size
-  within = omega (arith, f .1, fits-place o (bytesOf (part line start end)) fitting, digits-fit line start end h)
+  within = omega (arith, f .1, fits-place o (bytesOf (part line start end)) fitting, digits-fit line start end size h)
 
   pub long : length x ≡ size
   long = length-kept (laid o 0 (bytesOf (part line start end)) f) ∙ room

@@ -7,6 +7,7 @@ use Prim.Native.Nat.{ℕ}
 use lib.Dec.{ltb}
 use lib.ListN.{length}
 use Rattle.prelude.specs.Choice.{pick, both, no}
+use Rattle.time.specs.Time.{plus}
 use Rattle.refusal.specs.declared.Refusal.{Refusal}
 use Rattle.refusal.specs.declared.Refusal.the-variants.{LedgerFull, UnknownLine, NotStarted}
 use Rattle.candidates.specs.declared.Chosen.{Chosen}
@@ -47,7 +48,8 @@ use Rattle.journal_lines.specs.declared.Line.{Line}
 use Rattle.journal_turns.specs.declared.State.{State}
 use Rattle.journal_turns.specs.declared.Turn.{Turn}
 use Rattle.journal_turns.specs.declared.Said.the-variants as said
-use Rattle.journal_turns.specs.Turns.{Journal, stateOf, whole, Turned, turned, silent, refused, naming, saying, effectsOf, settledIn, Leaves, settled, inputOf, startedBy, startTurn, startedIn, clearedBy, started, ledgerBy, upTurn, Taken, inputTurn, expired, tickTurn, wroteTurn, downTurn, saidOf, dialedBy, dialTurn, withLedger, forgetTurn, claimFor, namedBy, attributeTurn, namedAs, oneMore, counted, apart, needsStart, callTurn, turnOf, longest, read, lineTurn}
+use Rattle.lines.specs.Lines.{longest}
+use Rattle.journal_turns.specs.Turns.{Journal, stateOf, whole, Turned, turned, silent, refused, naming, saying, effectsOf, settledIn, Leaves, settled, inputOf, startedBy, startTurn, startedIn, clearedBy, started, ledgerBy, upTurn, Taken, inputTurn, expired, tickTurn, wroteTurn, downTurn, saidOf, dialedBy, dialTurn, withLedger, forgetTurn, claimFor, namedBy, attributeTurn, namedAs, counted, apart, needsStart, callTurn, turnOf, read, lineTurn}
 
 -- ---- what a refused decision leaves
 
@@ -372,7 +374,7 @@ untaken-call line s connect targets ws sent reply l e f g =
     (ap (λ (x : Turn). turned x connect targets (tablesOf ws) ws sent) g ∙ sym (ap (λ (k : Taken). k .turn) n), sym (ap (λ (k : Taken). k .reply) n))
 
 -- a line of no known form is counted, and refused with 11
-pub unread-line : (s : State) (connect targets ws sent reply line : List ℕ) (ended : Bool) {n : ℕ} {r : Turn} → n ≡ oneMore (s .n)
+pub unread-line : (s : State) (connect targets ws sent reply line : List ℕ) (ended : Bool) {n : ℕ} {r : Turn} → n ≡ plus (s .n) 1
     → both ended (ltb (length line) longest) ≡ false
     → r ≡ saying (record { n = n; begun = s .begun; settings = s .settings; core = s .core }) (said.Refused UnknownLine)
     → (turned r connect targets (tablesOf ws) ws sent ≡ lineTurn (whole s connect targets (tablesOf ws) ws sent) reply line ended .turn)

@@ -1,12 +1,13 @@
 -- What a journal's lines do (RULES.md, sections 12.4 to 12.7): the journal after a line, and what is said of the line.
-use Prim.Native.Nat.{ℕ, _+_, min}
+use Prim.Native.Nat.{ℕ}
 use mathlib.Core.Bool.{Bool, true, false}
 use mathlib.Core.List.{List}
 use lib.Dec.{ltb}
 use lib.ListN.{length, replicate}
 use Rattle.prelude.specs.Choice.{pick, both, no}
-use Rattle.text.specs.Decimal.{most}
+use Rattle.time.specs.Time.{plus}
 use Rattle.text.specs.Hexadecimal.{bytesOf}
+use Rattle.lines.specs.Lines.{longest}
 use Rattle.fields.specs.Fields.{part}
 use Rattle.fields.specs.declared.Maybe.{Maybe}
 use Rattle.fields.specs.declared.Pair.{Pair}
@@ -114,14 +115,11 @@ newJournal s =
       sent = noFrame;
     }
 
-abbrev pub oneMore : ℕ → ℕ
-oneMore n = min (n + 1) most
-
--- one line more (section 12.7)
+-- one line more; n stays at the largest number (section 12.7)
 unfoldable pub counted : Journal → Journal
 counted j =
     record {
-      n = oneMore (j .n);
+      n = plus (j .n) 1;
       begun = j .begun;
       settings = j .settings;
       circuit = j .circuit;
@@ -418,10 +416,6 @@ needsStart Unknown = false
 unfoldable pub turnOf : List ℕ → Journal → List ℕ → Line → Taken
 turnOf line j reply call =
     pick (both (needsStart call) (no (j .begun))) (apart reply (refused j NotStarted)) (callTurn line j reply call)
-
--- the bytes of the longest line, with its line feed (section 12.1)
-abbrev pub longest : ℕ
-longest = 32768
 
 -- what a line says: nothing known without a line feed, or where it is too long with it
 unfoldable pub read : List ℕ → Bool → Line

@@ -34,11 +34,11 @@ ghost use lib.ListN.{length, replicate};
 ghost use Rattle.text.specs.Printed.{printed, behind};
 ghost use Rattle.path.specs.declared.DialPurpose.the-variants.{Punch};
 ghost use Rattle.ledger.specs.Ledger.{tablesOf, laid, dialStarted, forgotten, attributed};
-ghost use Rattle.lent.specs.Carried.{sentAfter, ledgerAfter, connectAfter};
+ghost use Rattle.lent.specs.Carried.{sentAfter, ledgerAfter, connectAfter, noFrame, noAims};
 ghost use Rattle.circuit.specs.Calls.{startedOf, wroteOf, downOf};
 ghost use Rattle.lent.specs.Calls.{upOf, tickOf};
-ghost use Rattle.lent.specs.Carried.{noFrame, noAims};
-ghost use Rattle.journal_turns.specs.Turns.{longest, whole, stateOf, turned, noEffects, newJournal, oneMore, saying, effectsOf, settledIn, digitsBytes, liveOf, offerOf, hostOf, inputOf, startedIn, clearedBy, inputTurn, expired, claimFor, saidOf, namedAs, needsStart, callTurn, turnOf, lineTurn};
+ghost use Rattle.lines.specs.Lines.{longest};
+ghost use Rattle.journal_turns.specs.Turns.{whole, stateOf, turned, noEffects, newJournal, saying, effectsOf, settledIn, digitsBytes, liveOf, offerOf, hostOf, inputOf, startedIn, clearedBy, inputTurn, expired, claimFor, saidOf, namedAs, needsStart, callTurn, turnOf, lineTurn};
 
 // ---- the state
 
@@ -77,15 +77,6 @@ pub fn new_journal(settings: Settings) -> State
         settings: settings,
         core: core,
     }
-}
-
-fn one_more(n: u64) -> u64
-    ensures { λ r. ⌜ r ≡ oneMore n ⌝ }
-{
-    if n < u64::MAX {
-        return n + 1;
-    }
-    n
 }
 
 // ---- what is said
@@ -758,7 +749,7 @@ pub fn take_line(
     ensures reply { λ r. ⌜ now (reply .exit) ≡ lineTurn (whole j (now (connect .entry)) (now (targets .entry)) (tablesOf (now (ledger .entry))) (now (ledger .entry)) (now (sent .entry))) (now (reply .entry)) (now (line .entry)) ended .reply ⌝ }
 {
     let next = State {
-        n: one_more(j.n),
+        n: time::saturating_add(j.n, 1),
         ..j
     };
     if ended {

@@ -8,6 +8,7 @@ use Rattle.prelude.specs.Choice.{pick}
 use Rattle.text.specs.Words.{ascii}
 use Rattle.text.specs.Decimal.{decimal}
 use Rattle.fields.specs.Fields.{keyed}
+use Rattle.journal_prints.specs.Outputs.{ownerWord}
 use Rattle.refusal.specs.Number.{numberOf}
 use Rattle.refusal.specs.declared.Refusal.{Refusal}
 use Rattle.ids.specs.declared.NatToken.{NatToken}
@@ -25,15 +26,9 @@ use Rattle.dials.specs.declared.Connections.{Connections}
 use Rattle.ledger.specs.Ledger.{PathLedger}
 use Rattle.ledger_answers.specs.declared.Said.{Said}
 use Rattle.ledger_answers.specs.declared.Said.the-variants.{Done, Refused, Nothing, Dial as SaidDial, Unnamed, Name, Upgrade, Yes, At, Ledger, Bad}
-use Rattle.path.specs.declared.Owner.the-variants as owner
 use Rattle.path.specs.declared.Path.the-variants as path
 use Rattle.path.specs.declared.DialPurpose.the-variants as purpose
 use Rattle.rows.specs.declared.Entry.the-variants as entry
-
-abbrev pub ownerText : Owner → List ℕ
-ownerText (owner.Attempt id) = decimal (id .0)
-ownerText owner.Inbound = ascii "inbound"
-ownerText owner.None = ascii "none"
 
 abbrev pub pathText : Path → List ℕ
 pathText (path.Relayed relay) = keyed (ascii "relayed:") (relay .0)
@@ -58,13 +53,13 @@ purposeFields (purpose.Probe peer) = keyed (ascii " purpose=probe peer=") (peer 
 purposeFields (purpose.Reserve peer) = keyed (ascii " purpose=reserve peer=") (peer .0)
 
 abbrev pub nameText : Attribution → List ℕ
-nameText name = pathFields (name .path) ++ ascii " owner=" ++ ownerText (name .owner)
+nameText name = pathFields (name .path) ++ ascii " owner=" ++ ownerWord (name .owner)
 
 abbrev pub dialText : Dial → List ℕ
 dialText dial = keyed (ascii "token=") (dial .token .0) ++ purposeFields (dial .purpose)
 
 abbrev pub upgradeText : Owner → Path → Path → List ℕ
-upgradeText owner from to = ascii "upgrade owner=" ++ ownerText owner ++ ascii " from=" ++ pathText from ++ ascii " to=" ++ pathText to
+upgradeText owner from to = ascii "upgrade owner=" ++ ownerWord owner ++ ascii " from=" ++ pathText from ++ ascii " to=" ++ pathText to
 
 abbrev pub yesText : Bool → List ℕ
 yesText b = pick b (ascii "yes") (ascii "no")
@@ -97,7 +92,7 @@ abbrev pub entryText : Entry → List ℕ
 entryText entry.Other = ascii ""
 entryText (entry.Dialed dial) = keyed (ascii ":") (dial .token .0) ++ ascii ":" ++ purposeText (dial .purpose)
 entryText (entry.Window end) = keyed (ascii ":") end
-entryText (entry.Path name) = ascii ":" ++ pathText (name .path) ++ ascii ":" ++ ownerText (name .owner)
+entryText (entry.Path name) = ascii ":" ++ pathText (name .path) ++ ascii ":" ++ ownerWord (name .owner)
 
 abbrev pub rowText : Row → List ℕ
 rowText row = decimal (row .key) ++ entryText (entryOf row)

@@ -6,7 +6,7 @@ ghost use lib.ListN.{length};
 ghost use Rattle.text.specs.Printed.{printed, behind};
 ghost use Rattle.rows.specs.Words.{rowsOf};
 ghost use Rattle.ledger.specs.Ledger.{tablesOf};
-ghost use Rattle.ledger_answers.specs.Answers.{separator, ownerText, pathText, pathFields, purposeText, purposeFields, yesText, refusedText, nameText, dialText, upgradeText, saidWords, saidText, entryText, rowText, rowsText, ledgerText, tokensIn, connectionsIn, tokensText, connectionsText, droppedText};
+ghost use Rattle.ledger_answers.specs.Answers.{separator, pathText, pathFields, purposeText, purposeFields, yesText, refusedText, nameText, dialText, upgradeText, saidWords, saidText, entryText, rowText, rowsText, ledgerText, tokensIn, connectionsIn, tokensText, connectionsText, droppedText};
 use dials::Connections;
 use dials::Tokens;
 use ledger::Ledger;
@@ -22,17 +22,6 @@ use rows::Row;
 use rows::Table;
 
 // ---- names and dials
-
-fn put_owner(owner: Owner, out: &mut [u8], at: usize) -> usize
-    ensures bytes { λ r. ⌜ now (out .exit) ≡ printed (now (out .entry)) at (ownerText owner) ⌝ }
-    ensures place { λ r. ⌜ r ≡ behind (now (out .entry)) at (ownerText owner) ⌝ }
-{
-    match owner {
-        Owner::Attempt(id) => text::put_decimal(id.0, out, at),
-        Owner::Inbound => text::put_text(b"inbound", out, at),
-        Owner::None => text::put_text(b"none", out, at),
-    }
-}
 
 fn put_path(path: Path, out: &mut [u8], at: usize) -> usize
     ensures bytes { λ r. ⌜ now (out .exit) ≡ printed (now (out .entry)) at (pathText path) ⌝ }
@@ -97,7 +86,7 @@ fn put_name(name: Attribution, out: &mut [u8], at: usize) -> usize
     let owner = name.owner;
     let p = put_path_fields(path, out, at);
     let p = text::put_text(b" owner=", out, p);
-    put_owner(owner, out, p)
+    journal_prints::put_owner_word(owner, out, p)
 }
 
 fn put_dial(dial: Dial, out: &mut [u8], at: usize) -> usize
@@ -115,7 +104,7 @@ fn put_upgrade(owner: Owner, from: Path, to: Path, out: &mut [u8], at: usize) ->
     ensures place { λ r. ⌜ r ≡ behind (now (out .entry)) at (upgradeText owner from to) ⌝ }
 {
     let p = text::put_text(b"upgrade owner=", out, at);
-    let p = put_owner(owner, out, p);
+    let p = journal_prints::put_owner_word(owner, out, p);
     let p = text::put_text(b" from=", out, p);
     let p = put_path(from, out, p);
     let p = text::put_text(b" to=", out, p);
@@ -173,7 +162,7 @@ fn put_entry(entry: Entry, out: &mut [u8], at: usize) -> usize
             let p = text::put_text(b":", out, at);
             let p = put_path(path, out, p);
             let p = text::put_text(b":", out, p);
-            put_owner(owner, out, p)
+            journal_prints::put_owner_word(owner, out, p)
         }
     }
 }

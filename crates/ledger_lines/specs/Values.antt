@@ -12,6 +12,7 @@ use Rattle.text.specs.Decimal.{decimalOf}
 use Rattle.text.specs.declared.Number.{Number}
 use Rattle.fields.specs.Fields.{numberAt, part}
 use Rattle.fields.specs.Line.{number, ends}
+use Rattle.fields.specs.Values.{numbersBy}
 use Rattle.path.specs.declared.Owner.{Owner}
 use Rattle.live_dials.specs.declared.Live.{Live}
 use Rattle.live_dials.specs.First.{no-live}
@@ -33,17 +34,9 @@ use Rattle.ledger_lines.specs.declared.PathRead.the-variants as pathRead
 use Rattle.ledger_lines.specs.declared.ClaimRead.the-variants as claimRead
 use Rattle.ledger_lines.specs.declared.PurposeField.the-variants as purposeField
 
-abbrev pub paired : Number → Number → Record
-paired (num.Value a) (num.Value b) = rec.Good (record { peer = record { 0 = a }; connection = record { 0 = b } })
-paired (num.Value a) num.Bad = rec.Bad
-paired num.Bad b = rec.Bad
-
-abbrev pub recordBy : ℕ → List ℕ → Record
-recordBy colon value =
-    pick (leb (length value) colon) rec.Bad (paired (decimalOf (take colon value)) (decimalOf (drop (colon + 1) value)))
-
 unfoldable pub recordOf : List ℕ → Record
-recordOf value = recordBy (lengthBefore 58 value) value
+recordOf value =
+    numbersBy rec.Bad (λ a b. rec.Good (record { peer = record { 0 = a }; connection = record { 0 = b } })) (lengthBefore 58 value) value
 
 -- the one that begins at a place, and where it ends
 unfoldable pub recordAt : List ℕ → ℕ → RecordAt

@@ -8,6 +8,10 @@ use Rattle.text.specs.Words.{lengthBefore}
 use Rattle.text.specs.Printed.{behind}
 use Rattle.lines.specs.declared.Gathered.{Gathered}
 
+-- the bytes of the longest line, with its line feed
+abbrev pub longest : ℕ
+longest = 32768
+
 -- the bytes of a block from a place up to a line feed, or all that are left
 abbrev pub textFrom : List ℕ → ℕ → List ℕ
 textFrom block from = take (lengthBefore 10 (drop from block)) (drop from block)

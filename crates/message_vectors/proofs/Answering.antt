@@ -12,6 +12,7 @@ use Rattle.prelude.specs.Choice.{pick}
 use Rattle.text.specs.Words.{ascii}
 use Rattle.text.specs.Decimal.{decimal}
 use Rattle.text.specs.Hexadecimal.{bytesOf, bytesText}
+use Rattle.lines.specs.Lines.{longest}
 use Rattle.fields.specs.Fields.{part}
 use Rattle.line_program.proofs.Answers.{stored-whole, take-replicate}
 use Rattle.refusal.specs.Number.{numberOf}
@@ -112,10 +113,10 @@ module _ (buffer : List ℕ) (used : ℕ) where
     unfolding lineText
     line-full h = rw (e, le-ltb used (length buffer) h)
 
-    pub line-long : used < length buffer → 32768 ≤ used → badText ≡ lineText buffer used ended
+    pub line-long : used < length buffer → longest ≤ used → badText ≡ lineText buffer used ended
     unfolding lineText
-    line-long h k = rw (e, lt-ltb used (length buffer) h, le-ltb used 32768 k)
+    line-long h k = rw (e, lt-ltb used (length buffer) h, le-ltb used longest k)
 
-    pub line-whole : used < length buffer → used < 32768 → answerText (take used buffer) ≡ lineText buffer used ended
+    pub line-whole : used < length buffer → used < longest → answerText (take used buffer) ≡ lineText buffer used ended
     unfolding lineText
-    line-whole h k = rw (e, lt-ltb used (length buffer) h, lt-ltb used 32768 k)
+    line-whole h k = rw (e, lt-ltb used (length buffer) h, lt-ltb used longest k)

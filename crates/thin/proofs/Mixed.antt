@@ -10,8 +10,9 @@ use Rattle.inbound.specs.declared.InboundCircuit.{InboundCircuit}
 use Rattle.vocabulary.specs.declared.Settings.{Settings}
 use Rattle.history.specs.Demand3.{begun}
 use Rattle.history.specs.Calls.{stepOf, datagrams, refusals}
+use Rattle.history.specs.Questions.{afterAll}
 use Rattle.history.proofs.Refusals.{refused-changes-nothing}
-use Rattle.thin.specs.Mixed.{Mixed, byValue, thinTick, thinWrote, made, madeAll, leaves, sent, refused, left, leftBy, AsMade, Unchanged, Demand3Mixed}
+use Rattle.thin.specs.Mixed.{Mixed, byValue, thinTick, thinWrote, made, madeAll, leaves, sent, refused, left, AsMade, Unchanged, Demand3Mixed}
 use Rattle.history.proofs.Run as run
 use Rattle.history.proofs.Bound as count
 
@@ -22,7 +23,7 @@ one c (thinTick l h own) = refl
 one c (thinWrote at conn stream) = refl
 
 pub as-made : (calls : List Mixed) (c : InboundCircuit) → AsMade c calls
-unfolding sent datagrams refused refusals left leftBy madeAll
+unfolding sent datagrams refused refusals left afterAll madeAll
 as-made [] c = record { same-sent = refl; same-refused = refl; same-left = refl }
 as-made (m ∷ ms) c =
     let r = as-made ms (stepOf c (made m) .circuit) in

@@ -14,6 +14,7 @@ use Rattle.inbound.specs.declared.InboundCircuit.{InboundCircuit}
 use Rattle.inbound.specs.declared.Answer.{Answer}
 use Rattle.inbound.specs.Circuits.{tickAnswer, wroteAnswer}
 use Rattle.history.specs.Calls.{Call, tick, wrote, Datagram, Step, answered, stepOf, datagrams, refusals}
+use Rattle.history.specs.Questions.{afterAll}
 use Rattle.history.specs.Demand3.{due, most, begun, windowsOf}
 
 -- a call by value, or a thin call
@@ -57,16 +58,11 @@ unfoldable pub left : InboundCircuit → List Mixed → InboundCircuit
 left c [] = c
 left c (m ∷ ms) = left (leaves c m .circuit) ms
 
--- the same of calls by value alone
-unfoldable pub leftBy : InboundCircuit → List Call → InboundCircuit
-leftBy c [] = c
-leftBy c (k ∷ ks) = leftBy (stepOf c k .circuit) ks
-
 -- as if each call had been the one that it makes
 pub record AsMade (c : InboundCircuit) (calls : List Mixed) : Type 0 where
   pub same-sent : sent c calls ≡ datagrams c (madeAll calls)
   pub same-refused : refused c calls ≡ refusals c (madeAll calls)
-  pub same-left : left c calls ≡ leftBy c (madeAll calls)
+  pub same-left : left c calls ≡ afterAll c (madeAll calls)
 
 -- the circuit is as it was, and nothing is sent
 pub record Unchanged (c : InboundCircuit) (call : Mixed) : Type 0 where

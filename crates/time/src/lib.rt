@@ -3,8 +3,8 @@ ghost use mathlib.Core.Path.{_≡_};
 ghost use Prim.Native.Nat.{_-_, min};
 ghost use Rattle.time.specs.Time.{plus};
 
-// The largest time, 2^64 − 1.
-pub const LAST: u64 = 18446744073709551615;
+// The largest time.
+pub const LAST: u64 = u64::MAX;
 
 pub fn saturating_add(a: u64, b: u64) -> u64
     ensures { λ r. ⌜ r ≡ plus a b ⌝ }

@@ -1,6 +1,7 @@
 use mathlib.Core.Path.{refl, ap}
 use native.Mathlib.Omega.{arith}
 use Rattle.candidates.specs.declared.Chosen.{Chosen}
+use Rattle.lines.specs.Lines.{longest}
 use Rattle.journal.proofs.Replaying.{zeros-long}
 use borrow.Author.Tests.{le-leb, lt-leb, lt-ltb, le-ltb, eq-eqb, ne-eqb}
 use borrow.Author.Needs.{needs}
@@ -38,7 +39,7 @@ slice-aggregate-replay-4 : tie.Need-slice-aggregate-replay-4
 slice-aggregate-replay-4 c = search needs
 
 replay-requires : tie.Need-replay-requires
-replay-requires c κs = (zeros-long 32768 (omega arith), omega (arith, c .before .before .before .before .before .before .before .before .before .before .before .before .before .large-buffer2 .ensures), refl, c .before .before .before .before .before .before .before .before .before .before .before .before .blank .ensures, ap (λ (z : Chosen). z .bytes) (c .before .before .before .before .before .before .before .before .before .before .empty .ensures), c .before .before .before .before .before .before .before .before .before .before .before .blank2 .ensures, c .before .before .before .before .before .before .before .before .empty2 .ensures .1, c .before .before .before .before .before .before .before .before .empty2 .ensures .0)
+replay-requires c κs = (zeros-long longest (omega arith), omega (arith, c .before .before .before .before .before .before .before .before .before .before .before .before .before .large-buffer2 .ensures), refl, c .before .before .before .before .before .before .before .before .before .before .before .before .blank .ensures, ap (λ (z : Chosen). z .bytes) (c .before .before .before .before .before .before .before .before .before .before .empty .ensures), c .before .before .before .before .before .before .before .before .before .before .before .blank2 .ensures, c .before .before .before .before .before .before .before .before .empty2 .ensures .1, c .before .before .before .before .before .before .before .before .empty2 .ensures .0)
 
 slice-aggregate-finish : tie.Need-slice-aggregate-finish
 slice-aggregate-finish c = search needs

@@ -4,10 +4,11 @@ use mathlib.Core.Logic.{⊎-elim}
 use Prim.Native.Nat.{ℕ, _*_, _≤_}
 use native.Mathlib.Omega.{arith}
 use lib.ListN.{length}
-use Rattle.text.specs.Decimal.{most}
+use Rattle.prelude.specs.Numbers.{maxU64}
 use Rattle.journal_prints.specs.Room.{room}
 use Rattle.ledger.specs.Ledger.{tablesOf}
-use Rattle.journal_turns.specs.Turns.{longest, whole}
+use Rattle.lines.specs.Lines.{longest}
+use Rattle.journal_turns.specs.Turns.{whole}
 use Rattle.journal.specs.Steps.{State}
 use Rattle.line_program.proofs.GoingOn.{apart}
 use Rattle.journal.proofs.Stepping.{step-within}
@@ -57,7 +58,7 @@ same-length-4 : tie.Need-same-length-4 Inv-loop μ-loop
 same-length-4 c = c .before .before .loop .inv .3 ∙ c .before .before .before .before .before .before .before .before .before .before .before .take-step .kept .1 .1 .1 .1 .1 .1 .1 .0
 
 returns : tie.Need-returns Inv-loop μ-loop
-returns c = (omega (arith, c .before .before .loop .inv .4, c .before .before .before .before .before .before .before .before .before .before .before .take-step .kept .1 .1 .1 .1 .1 .1 .1 .0), finished _ _ (c .before .before .loop .inv .7 _ _ (going (begin _ _ _ _ most (omega arith)) (c .before .before .before .before .before .before .before .before .before .before .before .before .before .before .before .before .before .before .before .before .before .before .before .before .pre .0) (c .before .before .before .before .before .before .before .before .before .before .before .before .before .before .before .before .before .before .before .before .before .before .before .before .pre .1) _ (c .before .before .before .before .before .before .before .before .before .before .before .take-step .ensures) _ (omega arith))) (λ e v. ⊎-elim (λ x. apart (sym v ∙ x .2 .left)) (λ y. ⊎-elim (λ x. apart (sym e ∙ x .1 .left)) (λ x. omega (arith, x)) y) (c .before .loop-test .came)))
+returns c = (omega (arith, c .before .before .loop .inv .4, c .before .before .before .before .before .before .before .before .before .before .before .take-step .kept .1 .1 .1 .1 .1 .1 .1 .0), finished _ _ (c .before .before .loop .inv .7 _ _ (going (begin _ _ _ _ maxU64 (omega arith)) (c .before .before .before .before .before .before .before .before .before .before .before .before .before .before .before .before .before .before .before .before .before .before .before .before .pre .0) (c .before .before .before .before .before .before .before .before .before .before .before .before .before .before .before .before .before .before .before .before .before .before .before .before .pre .1) _ (c .before .before .before .before .before .before .before .before .before .before .before .take-step .ensures) _ (omega arith))) (λ e v. ⊎-elim (λ x. apart (sym v ∙ x .2 .left)) (λ y. ⊎-elim (λ x. apart (sym e ∙ x .1 .left)) (λ x. omega (arith, x)) y) (c .before .loop-test .came)))
 
 pub run-spec : {M : Type 1} → statement M
 run-spec = tie.close (tie.spec Inv-loop μ-loop take-step-requires loop-holds take-step-requires-2 sub-turns loop-less loop-again same-length same-length-2 same-length-3 same-length-4 returns)

@@ -60,8 +60,8 @@ slice-aggregate-put-text-4 c = search needs
 put-text-requires-4 : tie.Need-put-text-requires-4
 put-text-requires-4 c κs = search needs
 
-put-owner-requires : tie.Need-put-owner-requires
-put-owner-requires c κs = search needs
+put-owner-word-requires : tie.Need-put-owner-word-requires
+put-owner-word-requires c κs = search needs
 
 same-length : tie.Need-same-length
 same-length c = length-kept (laid _ _ _ (c .before .before .put-text .ensures))
@@ -82,10 +82,10 @@ returns-3 : tie.Need-returns-3
 returns-3 c = parts (renamed (ap entryText (sym (c .before .before .before .before .before .before .entry2 .given .1))) (laid _ _ _ (c .before .before .put-number2 .ensures)))
 
 same-length-4 : tie.Need-same-length-4
-same-length-4 c = length-kept (laid _ _ _ (c .before .before .put-owner .ensures)) ∙ length-kept (laid _ _ _ (c .before .before .before .before .before .before .put-text4 .ensures)) ∙ length-kept (laid _ _ _ (c .before .before .before .before .before .before .before .before .before .before .before .put-path .ensures)) ∙ length-kept (laid _ _ _ (c .before .before .before .before .before .before .before .before .before .before .before .before .before .before .before .put-text3 .ensures))
+same-length-4 c = length-kept (laid _ _ _ (c .before .before .put-owner-word .ensures)) ∙ length-kept (laid _ _ _ (c .before .before .before .before .before .before .put-text4 .ensures)) ∙ length-kept (laid _ _ _ (c .before .before .before .before .before .before .before .before .before .before .before .put-path .ensures)) ∙ length-kept (laid _ _ _ (c .before .before .before .before .before .before .before .before .before .before .before .before .before .before .before .put-text3 .ensures))
 
 returns-4 : tie.Need-returns-4
-returns-4 c = parts (renamed (ap entryText (sym (c .before .before .before .before .before .before .before .before .before .before .before .before .before .before .before .before .before .before .before .entry3 .given .1))) (then (then (then (laid _ _ _ (c .before .before .before .before .before .before .before .before .before .before .before .before .before .before .before .put-text3 .ensures)) (laid _ _ _ (c .before .before .before .before .before .before .before .before .before .before .before .put-path .ensures))) (laid _ _ _ (c .before .before .before .before .before .before .put-text4 .ensures))) (laid _ _ _ (c .before .before .put-owner .ensures))))
+returns-4 c = parts (renamed (ap entryText (sym (c .before .before .before .before .before .before .before .before .before .before .before .before .before .before .before .before .before .before .before .entry3 .given .1))) (then (then (then (laid _ _ _ (c .before .before .before .before .before .before .before .before .before .before .before .before .before .before .before .put-text3 .ensures)) (laid _ _ _ (c .before .before .before .before .before .before .before .before .before .before .before .put-path .ensures))) (laid _ _ _ (c .before .before .before .before .before .before .put-text4 .ensures))) (laid _ _ _ (c .before .before .put-owner-word .ensures))))
 
 pub put-entry-spec : {M : Type 1} → statement M
-put-entry-spec = tie.close (tie.spec enum-told slice-aggregate-put-text put-text-requires enum-known-entry slice-aggregate-put-number put-number-requires slice-aggregate-put-text-2 put-text-requires-2 put-purpose-requires enum-known-entry-2 slice-aggregate-put-number-2 put-number-requires-2 enum-known-entry-3 slice-aggregate-put-text-3 put-text-requires-3 put-path-requires slice-aggregate-put-text-4 put-text-requires-4 put-owner-requires same-length returns same-length-2 returns-2 same-length-3 returns-3 same-length-4 returns-4)
+put-entry-spec = tie.close (tie.spec enum-told slice-aggregate-put-text put-text-requires enum-known-entry slice-aggregate-put-number put-number-requires slice-aggregate-put-text-2 put-text-requires-2 put-purpose-requires enum-known-entry-2 slice-aggregate-put-number-2 put-number-requires-2 enum-known-entry-3 slice-aggregate-put-text-3 put-text-requires-3 put-path-requires slice-aggregate-put-text-4 put-text-requires-4 put-owner-word-requires same-length returns same-length-2 returns-2 same-length-3 returns-3 same-length-4 returns-4)

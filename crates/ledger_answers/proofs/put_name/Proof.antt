@@ -13,14 +13,14 @@ slice-aggregate-put-text c = search needs
 put-text-requires : tie.Need-put-text-requires
 put-text-requires c κs = search needs
 
-put-owner-requires : tie.Need-put-owner-requires
-put-owner-requires c κs = search needs
+put-owner-word-requires : tie.Need-put-owner-word-requires
+put-owner-word-requires c κs = search needs
 
 same-length : tie.Need-same-length
-same-length c = length-kept (laid _ _ _ (c .before .before .put-owner .ensures)) ∙ length-kept (laid _ _ _ (c .before .before .before .before .before .before .put-text .ensures)) ∙ length-kept (laid _ _ _ (c .before .before .before .before .before .before .before .before .before .before .before .put-path-fields .ensures))
+same-length c = length-kept (laid _ _ _ (c .before .before .put-owner-word .ensures)) ∙ length-kept (laid _ _ _ (c .before .before .before .before .before .before .put-text .ensures)) ∙ length-kept (laid _ _ _ (c .before .before .before .before .before .before .before .before .before .before .before .put-path-fields .ensures))
 
 returns : tie.Need-returns
-returns c = parts (then (then (laid _ _ _ (c .before .before .before .before .before .before .before .before .before .before .before .put-path-fields .ensures)) (laid _ _ _ (c .before .before .before .before .before .before .put-text .ensures))) (laid _ _ _ (c .before .before .put-owner .ensures)))
+returns c = parts (then (then (laid _ _ _ (c .before .before .before .before .before .before .before .before .before .before .before .put-path-fields .ensures)) (laid _ _ _ (c .before .before .before .before .before .before .put-text .ensures))) (laid _ _ _ (c .before .before .put-owner-word .ensures)))
 
 pub put-name-spec : {M : Type 1} → statement M
-put-name-spec = tie.close (tie.spec put-path-fields-requires slice-aggregate-put-text put-text-requires put-owner-requires same-length returns)
+put-name-spec = tie.close (tie.spec put-path-fields-requires slice-aggregate-put-text put-text-requires put-owner-word-requires same-length returns)

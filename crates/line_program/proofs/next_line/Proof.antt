@@ -2,7 +2,7 @@ use mathlib.Core.Path.{_≡_, refl, sym, _∙_}
 use Prim.Native.Nat.{_-_, _≤_}
 use lib.ListN.{length}
 use Rattle.line_program.specs.Reads.{left, Turned}
-use Rattle.text.specs.Decimal.{most}
+use Rattle.prelude.specs.Numbers.{maxU64}
 use Rattle.line_program.proofs.GoingOn.{goes-on, begun, not-yet, yet, apart}
 use native.Mathlib.Omega.{arith}
 use borrow.Author.Needs.{needs}
@@ -10,7 +10,7 @@ use Rattle.line_program.proofs.next_line.Statement.{statement}
 use Rattle.line_program.proofs.next_line.Tie as tie
 
 abbrev Inv-loop : tie.InvT-loop
-Inv-loop block₀ line₀ from until stop s₀ turns₀ block line s turns = (s .used ≤ length line₀) × (s .until ≤ length block₀) × (length line ≡ length line₀) × (length block ≡ length block₀) × (turns ≤ most) × Turned (most - turns) line₀ 0 (left block₀ from until) block line s
+Inv-loop block₀ line₀ from until stop s₀ turns₀ block line s turns = (s .used ≤ length line₀) × (s .until ≤ length block₀) × (length line ≡ length line₀) × (length block ≡ length block₀) × (turns ≤ maxU64) × Turned (maxU64 - turns) line₀ 0 (left block₀ from until) block line s
 
 abbrev μ-loop : tie.MeasureT-loop
 μ-loop block₀ line₀ from until stop s₀ turns₀ block line s turns = turns
