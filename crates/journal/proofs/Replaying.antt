@@ -58,15 +58,15 @@ never-good a = refl
 -- what the definitions say in each case
 module _ (reply out : List ℕ) (ls : List Line) where
   bad-state : (failed : Bool) → unread failed ls ≡ false → isGood (firstIn ls) ≡ false
-      → replayed failed reply out ls
+      → replayed failed reply out ls []
       ≡ state (opened (firstIn ls)) reply (printed out 0 (openingText (firstIn ls))) (behind out 0 (openingText (firstIn ls))) []
   unfolding replayed
   bad-state failed v n = rw (v, n)
 
-  good-state : (failed : Bool) → unread failed ls ≡ false → isGood (firstIn ls) ≡ true
-      → replayed failed reply out ls ≡ taken (state (opened (firstIn ls)) reply out 0 []) (behindFirst ls)
+  good-state : (failed : Bool) (follow : List Bool) → unread failed ls ≡ false → isGood (firstIn ls) ≡ true
+      → replayed failed reply out ls follow ≡ taken (state (opened (firstIn ls)) reply out 0 []) (behindFirst ls) follow
   unfolding replayed
-  good-state failed v n = rw (v, n)
+  good-state failed follow v n = rw (v, n)
 
 bad-text : (ls : List Line) → isGood (firstIn ls) ≡ false → textOf ls ≡ openingText (firstIn ls)
 unfolding opening
@@ -108,6 +108,8 @@ module _ (reply out : List ℕ) (zero : reply ≡ replicate maxFrameSize 0) (ho 
       record {
         brought = read .brought;
         lines = [];
+        follow = [];
+        told = refl;
         unfinished = read .text;
         whole = read .whole ∙ ap (λ (t : Bool). read .text ++ (feed t ++ rest)) e;
         cut = refl;
@@ -119,6 +121,7 @@ module _ (reply out : List ℕ) (zero : reply ≡ replicate maxFrameSize 0) (ho 
         text = rw f;
         stopped = λ _ g _ _. apart (sym f ∙ g);
         unwritten = λ g _. apart g;
+        live = λ _ _. refl;
         all = λ _ g _. apart (sym f ∙ g);
       }
 
@@ -126,19 +129,21 @@ module _ (reply out : List ℕ) (zero : reply ≡ replicate maxFrameSize 0) (ho 
   module _ (f : r .failed ≡ false) (g : isGood (firstOf (take (r .used) line′) (r .ended)) ≡ false) {out′ : List ℕ} {q : ℕ}
       (p : out′ ≡ printed out 0 (openingText (firstOf (take (r .used) line′) (r .ended))))
       (b : q ≡ behind out 0 (openingText (firstOf (take (r .used) line′) (r .ended)))) where
-    made : (ls : List Line) (u : List ℕ) → firstOf (take (r .used) line′) (r .ended) ≡ firstIn ls → unread (r .failed) ls ≡ false
+    made : (ls : List Line) (u : List ℕ) → 0 ≡ length (behindFirst ls) → firstOf (take (r .used) line′) (r .ended) ≡ firstIn ls → unread (r .failed) ls ≡ false
         → read .brought ≡ bytesOf ls ++ (u ++ rest) → linesOf (bytesOf ls) ≡ ls
         → (length (bytesOf ls) < endless → textOf (linesOf (read .brought)) ≡ openingText (firstIn ls))
         → Replayed reply out block lent reply out′ (record { reading = r; waiting = q; written = true })
     unfolding journalText
-    made ls u same v whole cutting whole-text =
+    made ls u only same v whole cutting whole-text =
         let n : isGood (firstIn ls) ≡ false = ap isGood (sym same) ∙ g in
-        let shown : put (replayed (r .failed) reply out ls) ≡ openingText (firstIn ls) =
+        let shown : put (replayed (r .failed) reply out ls []) ≡ openingText (firstIn ls) =
         ap put (bad-state reply out ls (r .failed) v n) ∙ refusing (firstIn ls) n out ho
         in
         record {
           brought = read .brought;
           lines = ls;
+          follow = [];
+          told = only;
           unfinished = u;
           whole = whole;
           cut = cutting;
@@ -156,6 +161,7 @@ module _ (reply out : List ℕ) (zero : reply ≡ replicate maxFrameSize 0) (ho 
           text = shown ∙ sym (ap (λ (t : Bool). pick t [] (textOf ls)) v ∙ bad-text ls n);
           stopped = λ _ _ _ good. apart (sym good ∙ n);
           unwritten = λ v _. apart v;
+          live = λ good _. apart (sym good ∙ n);
           all = λ _ _ h. shown ∙ sym (whole-text h);
         }
 
@@ -164,7 +170,7 @@ module _ (reply out : List ℕ) (zero : reply ≡ replicate maxFrameSize 0) (ho 
     ended e =
         let w : read .brought ≡ read .text ++ (10 ∷ rest) = read .whole ∙ ap (λ (t : Bool). read .text ++ (feed t ++ rest)) e in
         let same : firstOf (take (r .used) line′) (r .ended) ≡ firstOf (read .text) true = same-first ∙ ap (firstOf (read .text)) e in
-        made ((read .text, true) ∷ []) [] same refl
+        made ((read .text, true) ∷ []) [] refl same refl
         (w ∙ sym (ap (λ (d : List ℕ). d ++ rest) (append-nil (read .text ++ (10 ∷ []))) ∙ append-assoc (read .text) (10 ∷ []) rest))
         (ap linesOf (append-nil (read .text ++ (10 ∷ []))) ∙ law .ended (read .text) [] (read .plain))
         (λ _. ap textOf (ap linesOf w ∙ law .ended (read .text) rest (read .plain))
@@ -190,7 +196,7 @@ module _ (reply out : List ℕ) (zero : reply ≡ replicate maxFrameSize 0) (ho 
       last u =
           let z : (read .text ++ []) ++ [] ≡ read .text = append-nil (read .text ++ []) ∙ append-nil (read .text) in
           let cutting : linesOf (read .text) ≡ (read .text, false) ∷ [] = law .last (read .text) (read .plain) (some x hl u) in
-          made ((read .text, false) ∷ []) [] (same (read .text)) refl
+          made ((read .text, false) ∷ []) [] refl (same (read .text)) refl
           (w ∙ ap (λ (d : List ℕ). d ++ rest) (sym z))
           (ap linesOf z ∙ cutting)
           (λ h.
@@ -202,7 +208,7 @@ module _ (reply out : List ℕ) (zero : reply ≡ replicate maxFrameSize 0) (ho 
       unfolding bytesOf cut
       missing u =
           let z : length (read .text) ≡ 0 = empty x hl u in
-          made [] (read .text) (same []) f w refl
+          made [] (read .text) refl (same []) f w refl
           (λ _.
           ap (λ (d : List ℕ). textOf (linesOf d))
           (w ∙ ap (λ (d : List ℕ). read .text ++ d) (dry (omega arith)) ∙ append-nil (read .text) ∙ none (read .text) z)
@@ -270,10 +276,10 @@ module _ (reply out : List ℕ) (zero : reply ≡ replicate maxFrameSize 0) (ho 
     unfolding bytesOf
     shorter h = omega (arith, length-append (read .text ++ (10 ∷ [])) (bytesOf (ran .lines)))
 
-    stood : replayed (e .reading .failed) reply out all-lines ≡ taken (state j reply out₁ 0 []) (ran .lines)
-    stood = good-state reply out all-lines (e .reading .failed) refl good ∙ ap (λ (z : State). taken z (ran .lines)) (sym start)
+    stood : replayed (e .reading .failed) reply out all-lines (ran .follow) ≡ taken (state j reply out₁ 0 []) (ran .lines) (ran .follow)
+    stood = good-state reply out all-lines (e .reading .failed) (ran .follow) refl good ∙ ap (λ (z : State). taken z (ran .lines) (ran .follow)) (sym start)
 
-    good-put : put (replayed (e .reading .failed) reply out all-lines) ≡ textOf all-lines
+    good-put : put (replayed (e .reading .failed) reply out all-lines (ran .follow)) ≡ textOf all-lines
     good-put =
         ap put stood
         ∙ ran .text
@@ -287,6 +293,8 @@ module _ (reply out : List ℕ) (zero : reply ≡ replicate maxFrameSize 0) (ho 
         record {
           brought = read .brought ++ ran .brought;
           lines = all-lines;
+          follow = ran .follow;
+          told = ran .told;
           unfinished = ran .unfinished;
           whole = good-whole;
           cut = good-cut;
@@ -298,6 +306,7 @@ module _ (reply out : List ℕ) (zero : reply ≡ replicate maxFrameSize 0) (ho 
           text = good-put;
           stopped = λ v f h _. ran .stopped v f (shorter h);
           unwritten = λ v z. ran .unwritten v (sym (ap (λ (d : State). d .handed) stood) ∙ z);
+          live = λ _. ran .live;
           all =
               λ v f h.
               good-put

@@ -8,19 +8,20 @@ use lib.Dec.{ltb}
 use lib.ListN.{length, take, length-append, length-take}
 use borrow.Author.Tests.{ltb-true, ltb-false}
 use Rattle.prelude.specs.Numbers.{maxU64}
+use Rattle.text.specs.Printed.{printed, behind}
 use Rattle.text.proofs.Printing.{length-kept, fits, fits-place, full-place}
 use Rattle.line_program.specs.declared.Reading.{Reading}
-use Rattle.line_program.specs.Reads.{left, feed, Read, NextLine}
+use Rattle.line_program.specs.Reads.{left, hasLine, feed, Read, NextLine}
 use Rattle.journal_prints.specs.Room.{room}
 use Rattle.lines.specs.Lines.{longest}
-use Rattle.journal_turns.specs.Turns.{Journal, lineTurn}
+use Rattle.journal_turns.specs.Turns.{Journal, Taken, lineTurn}
 use Rattle.journal_turns.specs.declared.State.{State as Numbers}
-use Rattle.journal_text.specs.Texts.{lineText}
+use Rattle.journal_text.specs.Texts.{turnText, lineText}
 use Rattle.journal_text.specs.Journals.{cut, linesOf, linesText}
 use Rattle.journal_text.proofs.Cutting.{lines as law, long-same}
-use Rattle.line_program.proofs.GoingOn.{apart}
+use Rattle.line_program.proofs.GoingOn.{apart, had-none}
 use Rattle.journal.specs.declared.Step.{Step}
-use Rattle.journal.specs.Steps.{isLine, handedAfter, State, state, taking, taken, stepOf, stepText, put}
+use Rattle.journal.specs.Steps.{isLine, waitingAfter, handedAfter, State, state, answered, taking, taken, stepOf, stepText, put}
 use Rattle.journal.specs.Runs.{bytesOf, endless, Ran}
 
 abbrev pub Line : Type 0
@@ -28,10 +29,13 @@ Line = List ℕ × Bool
 
 -- ---- one line more
 
-taken-more : (s : State) (xs : List Line) (l : Line) → taken s (xs ++ (l ∷ [])) ≡ taking (taken s xs) l
+taken-more : (s : State) (xs : List Line) (fs : List Bool) (l : Line) (f : Bool) → length fs ≡ length xs
+    → taken s (xs ++ (l ∷ [])) (fs ++ (f ∷ [])) ≡ taking (taken s xs fs) l f
 unfolding taken
-taken-more s [] l = refl
-taken-more s (x ∷ xs) l = taken-more (taking s x) xs l
+taken-more s [] [] l f e = refl
+taken-more s [] (g ∷ fs) l f e = absurd (omega arith)
+taken-more s (x ∷ xs) [] l f e = absurd (omega arith)
+taken-more s (x ∷ xs) (g ∷ fs) l f e = taken-more (taking s x g) xs fs l f (omega arith)
 
 bytes-more : (xs : List Line) (l : Line) → bytesOf (xs ++ (l ∷ [])) ≡ bytesOf xs ++ (l .0 ++ feed (l .1))
 unfolding bytesOf
@@ -40,18 +44,25 @@ bytes-more (x ∷ xs) l =
     ap (λ (r : List ℕ). (x .0 ++ feed (x .1)) ++ r) (bytes-more xs l)
     ∙ sym (append-assoc (x .0 ++ feed (x .1)) (bytesOf xs) (l .0 ++ feed (l .1)))
 
-text-more : (s : State) (xs : List Line) (l : Line)
+text-more : (s : State) (xs : List Line) (fs : List Bool) (l : Line)
     → linesText (s .journal) (s .reply) (xs ++ (l ∷ []))
-    ≡ linesText (s .journal) (s .reply) xs ++ lineText (taken s xs .journal) (taken s xs .reply) (l .0) (l .1)
+    ≡ linesText (s .journal) (s .reply) xs ++ lineText (taken s xs fs .journal) (taken s xs fs .reply) (l .0) (l .1)
 unfolding linesText taken taking
-text-more s [] l = append-nil (lineText (s .journal) (s .reply) (l .0) (l .1))
-text-more s (x ∷ xs) l =
-    ap (λ (r : List ℕ). lineText (s .journal) (s .reply) (x .0) (x .1) ++ r) (text-more (taking s x) xs l)
+text-more s [] fs l = append-nil (lineText (s .journal) (s .reply) (l .0) (l .1))
+text-more s (x ∷ xs) [] l =
+    ap (λ (r : List ℕ). lineText (s .journal) (s .reply) (x .0) (x .1) ++ r) (text-more (taking s x false) xs [] l)
     ∙ sym
     (append-assoc
     (lineText (s .journal) (s .reply) (x .0) (x .1))
-    (linesText (taking s x .journal) (taking s x .reply) xs)
-    (lineText (taken (taking s x) xs .journal) (taken (taking s x) xs .reply) (l .0) (l .1)))
+    (linesText (taking s x false .journal) (taking s x false .reply) xs)
+    (lineText (taken (taking s x false) xs [] .journal) (taken (taking s x false) xs [] .reply) (l .0) (l .1)))
+text-more s (x ∷ xs) (f ∷ fs) l =
+    ap (λ (r : List ℕ). lineText (s .journal) (s .reply) (x .0) (x .1) ++ r) (text-more (taking s x f) xs fs l)
+    ∙ sym
+    (append-assoc
+    (lineText (s .journal) (s .reply) (x .0) (x .1))
+    (linesText (taking s x f .journal) (taking s x f .reply) xs)
+    (lineText (taken (taking s x f) xs fs .journal) (taken (taking s x f) xs fs .reply) (l .0) (l .1)))
 
 same-state : {j j′ : Journal} {a a′ x x′ : List ℕ} {v v′ : ℕ} (h : List ℕ) → j ≡ j′ → a ≡ a′ → x ≡ x′ → v ≡ v′ → state j a x v h ≡ state j′ a′ x′ v′ h
 same-state h p q r t = rw (p, q, r, t)
@@ -66,26 +77,32 @@ end-none (x ∷ a) b e = absurd (omega (arith, ap length e))
 pub record Open (before : State) (had rest : List ℕ) (j : Journal) (reply out : List ℕ) (w : ℕ) (v : Bool) (turns : ℕ) : Type 0 where
   pub brought : List ℕ
   pub lines : List Line
+  pub follow : List Bool
+  pub told : length follow ≡ length lines
   pub handed : List ℕ
   pub whole : had ++ brought ≡ bytesOf lines ++ rest
-  pub stood : state j reply out w handed ≡ taken before lines
+  pub stood : state j reply out w handed ≡ taken before lines follow
   pub text : put (state j reply out w handed) ≡ linesText (before .journal) (before .reply) lines
   pub ended : (r : List ℕ) → linesOf (bytesOf lines ++ r) ≡ lines ++ linesOf r
   pub given : v ≡ false → handed ≡ [] → ⊥
+  pub live : hasLine rest ≡ false → w ≡ 0
   pub counted : maxU64 ≤ turns + length (bytesOf lines)
 
 -- the last reading met no line feed
 pub record Closed (before : State) (had rest : List ℕ) (j : Journal) (reply out : List ℕ) (w : ℕ) (v : Bool) (r : Reading) : Type 0 where
   pub brought : List ℕ
   pub lines : List Line
+  pub follow : List Bool
+  pub told : length follow ≡ length lines
   pub unfinished : List ℕ
   pub handed : List ℕ
   pub whole : had ++ brought ≡ bytesOf lines ++ (unfinished ++ rest)
-  pub stood : state j reply out w handed ≡ taken before lines
+  pub stood : state j reply out w handed ≡ taken before lines follow
   pub text : put (state j reply out w handed) ≡ linesText (before .journal) (before .reply) lines
   pub cutting : linesOf (bytesOf lines) ≡ lines
   pub dry : r .more ≡ false → r .failed ≡ false → unfinished ++ rest ≡ []
   pub given : v ≡ false → handed ≡ [] → ⊥
+  pub live : hasLine rest ≡ false → w ≡ 0
   pub long : r .more ≡ true → endless ≤ length (bytesOf lines)
 
 pub record Going (before : State) (had block : List ℕ) (j′ : Journal) (reply out : List ℕ) (s : Step) (turns : ℕ) : Type 0 where
@@ -101,7 +118,7 @@ open-cut o = ap linesOf (sym (append-nil (bytesOf (o .lines)))) ∙ o .ended [] 
 pub begin : (j : Journal) (reply out had : List ℕ) (turns : ℕ) → maxU64 ≤ turns → Open (state j reply out 0 []) had had j reply out 0 true turns
 unfolding bytesOf taken linesText
 begin j reply out had turns h =
-    record { brought = []; lines = []; handed = []; whole = append-nil had; stood = refl; text = refl; ended = λ r. refl; given = λ f _. apart f; counted = omega arith }
+    record { brought = []; lines = []; follow = []; told = refl; handed = []; whole = append-nil had; stood = refl; text = refl; ended = λ r. refl; given = λ f _. apart f; live = λ _. refl; counted = omega arith }
 
 -- ---- a line's buffer says what the line does
 
@@ -165,17 +182,17 @@ module _ {line had block after : List ℕ} {r : Reading} (x : NextLine line had 
 -- what the contract of a step says
 abbrev Stepping : List ℕ → List ℕ → List ℕ → List ℕ → Journal → ℕ → List ℕ → List ℕ → Journal → List ℕ → List ℕ → Step → Type 0
 Stepping mid line reply out j w block′ line′ j′ reply′ out′ s =
-    (j′ ≡ stepOf (s .reading) line′ j reply out w .journal)
-    × ((reply′ ≡ stepOf (s .reading) line′ j reply out w .reply)
-    × ((out′ ≡ stepOf (s .reading) line′ j reply out w .out)
-    × ((s .waiting ≡ stepOf (s .reading) line′ j reply out w .waiting)
-    × ((4 * room ≤ length out
-    → stepOf (s .reading) line′ j reply out w .handed ++ take (s .waiting) out′ ≡ take w out ++ stepText (s .reading) line′ j reply)
-    × ((4 * room ≤ length out → stepOf (s .reading) line′ j reply out w .handed ≡ [] → s .written ≡ true)
+    (j′ ≡ stepOf (s .reading) block′ line′ j reply out w .journal)
+    × ((reply′ ≡ stepOf (s .reading) block′ line′ j reply out w .reply)
+    × ((out′ ≡ stepOf (s .reading) block′ line′ j reply out w .out)
+    × ((s .waiting ≡ stepOf (s .reading) block′ line′ j reply out w .waiting)
+    × ((w + 4 * room ≤ length out
+    → stepOf (s .reading) block′ line′ j reply out w .handed ++ take (s .waiting) out′ ≡ take w out ++ stepText (s .reading) line′ j reply)
+    × ((w + 4 * room ≤ length out → stepOf (s .reading) block′ line′ j reply out w .handed ≡ [] → s .written ≡ true)
     × NextLine line mid block′ line′ (s .reading))))))
 
 module _ {before : State} {had mid line reply out : List ℕ} {j : Journal} {w : ℕ} {v : Bool} {turns : ℕ}
-    (o : Open before had mid j reply out w v turns) (hl : longest ≤ length line) (ho : 4 * room ≤ length out)
+    (o : Open before had mid j reply out w v turns) (hl : longest ≤ length line) (ho : w + 4 * room ≤ length out)
     (s : Step) {block′ line′ : List ℕ} {j′ : Journal} {reply′ out′ : List ℕ} (k : Stepping mid line reply out j w block′ line′ j′ reply′ out′ s) where
   abbrev read : Read line 0 mid block′ line′ (s .reading)
   read = k .1 .1 .1 .1 .1 .1 .read
@@ -195,43 +212,68 @@ module _ {before : State} {had mid line reply out : List ℕ} {j : Journal} {w :
     abbrev l : Line
     l = (read .text, s .reading .ended)
 
-    stepped : stepOf (s .reading) line′ j reply out w ≡ taking (state j reply out w []) l
+    -- what is handed over behind it
+    abbrev gives : List ℕ
+    gives = handedAfter (hasLine rest) (answered (state j reply out w []) l .out) (answered (state j reply out w []) l .waiting)
+
+    -- a state by what the line does
+    abbrev by-turn : Taken → State
+    by-turn t =
+        record {
+          journal = t .turn .journal;
+          reply = t .reply;
+          out = printed out w (turnText (t .turn));
+          waiting = waitingAfter (hasLine rest) (printed out w (turnText (t .turn))) (behind out w (turnText (t .turn)));
+          handed = [] ++ handedAfter (hasLine rest) (printed out w (turnText (t .turn))) (behind out w (turnText (t .turn)));
+        }
+
+    stepped : stepOf (s .reading) block′ line′ j reply out w ≡ taking (state j reply out w []) l (hasLine rest)
     unfolding stepOf taking lineText
-    stepped = rw (e, same-line (k .1 .1 .1 .1 .1 .1) hl j reply)
+    stepped = rw e (ap by-turn (same-line (k .1 .1 .1 .1 .1 .1) hl j reply))
 
     printing : stepText (s .reading) line′ j reply ≡ lineText j reply (l .0) (l .1)
     unfolding stepText lineText
     printing = rw (e, same-line (k .1 .1 .1 .1 .1 .1) hl j reply)
 
-    took-stood : state j′ reply′ out′ (s .waiting) (o .handed ++ handedAfter out w) ≡ taken before (o .lines ++ (l ∷ []))
+    took-stood : state j′ reply′ out′ (s .waiting) (o .handed ++ gives) ≡ taken before (o .lines ++ (l ∷ [])) (o .follow ++ (hasLine rest ∷ []))
     unfolding taking
     took-stood =
-        same-state (o .handed ++ handedAfter out w)
+        same-state (o .handed ++ gives)
         (k .0 ∙ ap (λ (z : State). z .journal) stepped)
         (k .1 .0 ∙ ap (λ (z : State). z .reply) stepped)
         (k .1 .1 .0 ∙ ap (λ (z : State). z .out) stepped)
         (k .1 .1 .1 .0 ∙ ap (λ (z : State). z .waiting) stepped)
-        ∙ ap (λ (z : State). taking z l) (o .stood)
-        ∙ sym (taken-more before (o .lines) l)
+        ∙ ap (λ (z : State). taking z l (hasLine rest)) (o .stood)
+        ∙ sym (taken-more before (o .lines) (o .follow) l (hasLine rest) (o .told))
 
-    over : stepOf (s .reading) line′ j reply out w .handed ≡ handedAfter out w
+    over : stepOf (s .reading) block′ line′ j reply out w .handed ≡ gives
     unfolding taking
     over = ap (λ (z : State). z .handed) stepped
 
-    took-text : put (state j′ reply′ out′ (s .waiting) (o .handed ++ handedAfter out w))
+    took-text : put (state j′ reply′ out′ (s .waiting) (o .handed ++ gives))
         ≡ linesText (before .journal) (before .reply) (o .lines ++ (l ∷ []))
     took-text =
-        append-assoc (o .handed) (handedAfter out w) (take (s .waiting) out′)
+        append-assoc (o .handed) (gives) (take (s .waiting) out′)
         ∙ ap (λ (b : List ℕ). o .handed ++ (b ++ take (s .waiting) out′)) (sym over)
         ∙ ap (λ (b : List ℕ). o .handed ++ b) (k .1 .1 .1 .1 .0 ho)
         ∙ ap (λ (b : List ℕ). o .handed ++ (take w out ++ b)) printing
         ∙ sym (append-assoc (o .handed) (take w out) (lineText j reply (l .0) (l .1)))
         ∙ ap (λ (b : List ℕ). b ++ lineText j reply (l .0) (l .1)) (o .text)
         ∙ ap (λ (z : State). linesText (before .journal) (before .reply) (o .lines) ++ lineText (z .journal) (z .reply) (l .0) (l .1)) (o .stood)
-        ∙ sym (text-more before (o .lines) l)
+        ∙ sym (text-more before (o .lines) (o .follow) l)
 
-    took-given : s .written ≡ false → o .handed ++ handedAfter out w ≡ [] → ⊥
-    took-given f z = apart (sym (k .1 .1 .1 .1 .1 .0 ho (over ∙ end-none (o .handed) (handedAfter out w) z)) ∙ f)
+    took-given : s .written ≡ false → o .handed ++ gives ≡ [] → ⊥
+    took-given f z = apart (sym (k .1 .1 .1 .1 .1 .0 ho (over ∙ end-none (o .handed) (gives) z)) ∙ f)
+
+    took-told : length (o .follow ++ (hasLine rest ∷ [])) ≡ length (o .lines ++ (l ∷ []))
+    took-told = omega (arith, o .told, length-append (o .follow) (hasLine rest ∷ []), length-append (o .lines) (l ∷ []))
+
+    took-live : hasLine rest ≡ false → s .waiting ≡ 0
+    unfolding taking waitingAfter
+    took-live f =
+        k .1 .1 .1 .0
+        ∙ ap (λ (z : State). z .waiting) stepped
+        ∙ ap (λ (d : Bool). taking (state j reply out w []) l d .waiting) f
 
     took-whole : had ++ (o .brought ++ read .brought) ≡ bytesOf (o .lines ++ (l ∷ [])) ++ rest
     took-whole =
@@ -242,15 +284,19 @@ module _ {before : State} {had mid line reply out : List ℕ} {j : Journal} {w :
 
   -- where there is none nothing changes
   module _ (e : isLine (s .reading .failed) (s .reading .ended) (s .reading .used) ≡ false) where
-    stayed : stepOf (s .reading) line′ j reply out w ≡ state j reply out w []
+    stayed : stepOf (s .reading) block′ line′ j reply out w ≡ state j reply out w []
     unfolding stepOf
     stayed = rw e
 
-    left-stood : state j′ reply′ out′ (s .waiting) (o .handed) ≡ taken before (o .lines)
+    left-stood : state j′ reply′ out′ (s .waiting) (o .handed) ≡ taken before (o .lines) (o .follow)
     left-stood = rw (k .0, k .1 .0, k .1 .1 .0, k .1 .1 .1 .0, stayed) (o .stood)
 
     left-given : s .written ≡ false → o .handed ≡ [] → ⊥
     left-given f _ = apart (sym (k .1 .1 .1 .1 .1 .0 ho (ap (λ (z : State). z .handed) stayed)) ∙ f)
+
+    -- what the block had was all read without a line feed
+    left-live : s .reading .ended ≡ false → s .reading .more ≡ false → s .waiting ≡ 0
+    left-live d m = k .1 .1 .1 .0 ∙ ap (λ (z : State). z .waiting) stayed ∙ o .live (had-none read d m)
 
     left-text : put (state j′ reply′ out′ (s .waiting) (o .handed)) ≡ linesText (before .journal) (before .reply) (o .lines)
     left-text = rw (k .1 .1 .0, k .1 .1 .1 .0, stayed) (o .text)
@@ -284,12 +330,15 @@ module _ {before : State} {had mid line reply out : List ℕ} {j : Journal} {w :
         record {
           brought = o .brought ++ read .brought;
           lines = o .lines ++ (l there ∷ []);
-          handed = o .handed ++ handedAfter out w;
+          follow = o .follow ++ (hasLine rest ∷ []);
+          told = took-told there;
+          handed = o .handed ++ gives there;
           whole = took-whole there;
           stood = took-stood there;
           text = took-text there;
           ended = goes-ended;
           given = took-given there;
+          live = took-live there;
           counted =
               let f : length (feed (s .reading .ended)) ≡ 1 = ap (λ (t : Bool). length (feed t)) e in
               omega (
@@ -309,6 +358,8 @@ module _ {before : State} {had mid line reply out : List ℕ} {j : Journal} {w :
         record {
           brought = o .brought ++ read .brought;
           lines = o .lines;
+          follow = o .follow;
+          told = o .told;
           unfinished = read .text;
           handed = o .handed;
           whole = grown ∙ ap (λ (t : Bool). bytesOf (o .lines) ++ (read .text ++ (feed t ++ rest))) e;
@@ -317,6 +368,7 @@ module _ {before : State} {had mid line reply out : List ℕ} {j : Journal} {w :
           cutting = open-cut o;
           dry = λ _ g. apart (sym f ∙ g);
           given = left-given n;
+          live = λ _. left-live n e (read .failing f);
           long = λ m. apart (sym m ∙ read .failing f);
         }
 
@@ -328,6 +380,8 @@ module _ {before : State} {had mid line reply out : List ℕ} {j : Journal} {w :
           record {
             brought = o .brought ++ read .brought;
             lines = o .lines;
+            follow = o .follow;
+            told = o .told;
             unfinished = read .text;
             handed = o .handed;
             whole = grown ∙ ap (λ (t : Bool). bytesOf (o .lines) ++ (read .text ++ (feed t ++ rest))) e;
@@ -336,8 +390,13 @@ module _ {before : State} {had mid line reply out : List ℕ} {j : Journal} {w :
             cutting = open-cut o;
             dry = λ m _. ap (λ (b : List ℕ). b ++ rest) (none (read .text) z) ∙ read .dry m .1;
             given = left-given n;
+            live = λ _. left-live n e (at-end (s .reading .more) refl);
             long = λ m. absurd (omega (arith, z, k .1 .1 .1 .1 .1 .1 .long e m));
           }
+        where
+          at-end : (t : Bool) → s .reading .more ≡ t → s .reading .more ≡ false
+          at-end true m = absurd (omega (arith, empty (k .1 .1 .1 .1 .1 .1) hl u, k .1 .1 .1 .1 .1 .1 .long e m))
+          at-end false m = m
 
       last : ltb 0 (s .reading .used) ≡ true → Closed before had rest j′ reply′ out′ (s .waiting) (s .written) (s .reading)
       last u =
@@ -345,8 +404,10 @@ module _ {before : State} {had mid line reply out : List ℕ} {j : Journal} {w :
           record {
             brought = o .brought ++ read .brought;
             lines = o .lines ++ (l t ∷ []);
+            follow = o .follow ++ (hasLine rest ∷ []);
+            told = took-told t;
             unfinished = [];
-            handed = o .handed ++ handedAfter out w;
+            handed = o .handed ++ gives t;
             whole = took-whole t;
             stood = took-stood t;
             text = took-text t;
@@ -360,6 +421,7 @@ module _ {before : State} {had mid line reply out : List ℕ} {j : Journal} {w :
                 ∙ ap (λ (d : Bool). o .lines ++ ((read .text, d) ∷ [])) (sym e);
             dry = λ m _. read .dry m .1;
             given = took-given t;
+            live = took-live t;
             long = λ m.
                 omega (
                   arith,
@@ -403,6 +465,8 @@ finished {before} {had} {block} {reply} {out} {turns} lent s g z = go (s .readin
         record {
           brought = o .brought;
           lines = o .lines;
+          follow = o .follow;
+          told = o .told;
           unfinished = [];
           whole = o .whole;
           cut = open-cut o;
@@ -414,12 +478,15 @@ finished {before} {had} {block} {reply} {out} {turns} lent s g z = go (s .readin
           text = ap put (sym (o .stood)) ∙ o .text;
           stopped = λ v f b. absurd (omega (arith, z e v, o .counted));
           unwritten = λ f n. o .given f (ap (λ (x : State). x .handed) (o .stood) ∙ n);
+          live = o .live;
         }
     go false e =
         let c = g .stops e in
         record {
           brought = c .brought;
           lines = c .lines;
+          follow = c .follow;
+          told = c .told;
           unfinished = c .unfinished;
           whole = c .whole;
           cut = c .cutting;
@@ -431,4 +498,5 @@ finished {before} {had} {block} {reply} {out} {turns} lent s g z = go (s .readin
           text = ap put (sym (c .stood)) ∙ c .text;
           stopped = λ v f b. ends c (s .reading .more) refl f b;
           unwritten = λ f n. c .given f (ap (λ (x : State). x .handed) (c .stood) ∙ n);
+          live = c .live;
         }

@@ -2,92 +2,135 @@
 use mathlib.Core.Path.{_≡_, refl, sym, ap, _∙_}
 use mathlib.Core.List.{List, [], _++_, append-nil}
 use mathlib.Core.Bool.{Bool, true, false}
-use Prim.Native.Nat.{ℕ, _+_, _*_, _<_, _≤_}
+use Prim.Native.Nat.{ℕ, _+_, _*_, _≤_}
 use native.Mathlib.Omega.{arith}
 use lib.Dec.{leb}
 use lib.ListN.{length, take, length-take}
-use borrow.Author.Tests.{leb-true, leb-false}
+use borrow.Author.Tests.{leb-true}
 use Rattle.prelude.specs.Choice.{pick}
 use Rattle.text.specs.Printed.{printed, behind}
-use Rattle.text.proofs.Printing.{behind-within}
+use Rattle.text.proofs.Printing.{length-kept, behind-within}
 use Rattle.line_program.specs.declared.Reading.{Reading}
+use Rattle.line_program.specs.Reads.{left, hasLine}
 use Rattle.journal_prints.specs.Room.{room}
 use Rattle.journal_turns.specs.Turns.{Journal, lineTurn}
 use Rattle.journal_text.specs.Texts.{lineText}
-use Rattle.journal.specs.Steps.{isLine, waitingAfter, handedAfter, State, state, taking, stepOf, stepText}
+use Rattle.journal.specs.Steps.{isLine, stays, waitingAfter, handedAfter, State, state, taking, stepOf, stepText, NothingWaits}
 
--- where there is room for a line's output lines all that waited, and what the line prints, is handed over or waits
-module _ (out : List ℕ) (waiting w q : ℕ) (x t : List ℕ) where
-  go : (b : Bool) → leb (waiting + 4 * room) (length out) ≡ b → w ≡ pick b waiting 0
-      → (w + 4 * room ≤ length out → take q x ≡ take w out ++ t) → 4 * room ≤ length out
-      → pick b [] (take waiting out) ++ take q x ≡ take waiting out ++ t
-  go true e f h k =
-      let l : waiting + 4 * room ≤ length out = leb-true (waiting + 4 * room) (length out) e in
-      h (omega arith) ∙ ap (λ (n : ℕ). take n out ++ t) f
-  go false e f h k = ap (λ (s : List ℕ). take waiting out ++ s) (h (omega arith) ∙ ap (λ (n : ℕ). take n out ++ t) f)
+pub nothing-waits : NothingWaits
+unfolding taking waitingAfter
+nothing-waits s l = refl
 
-  pub step-whole : w ≡ waitingAfter (length out) waiting → (w + 4 * room ≤ length out → take q x ≡ take w out ++ t) → 4 * room ≤ length out
-      → handedAfter out waiting ++ take q x ≡ take waiting out ++ t
+length-printed : (o : List ℕ) (p : ℕ) (t : List ℕ) → length (printed o p t) ≡ length o
+length-printed o p t = length-kept {q = behind o p t} (record { bytes = refl; place = refl })
+
+-- ---- what waits stays or is handed over
+
+module _ (follows : Bool) (out : List ℕ) (waiting : ℕ) where
+  -- none of it is lost
+  all-there : handedAfter follows out waiting ++ take (waitingAfter follows out waiting) out ≡ take waiting out
   unfolding waitingAfter handedAfter
-  step-whole = go (leb (waiting + 4 * room) (length out)) refl
+  all-there = go (stays follows (length out) waiting)
+    where
+      go : (b : Bool) → pick b [] (take waiting out) ++ take (pick b waiting 0) out ≡ take waiting out
+      go true = refl
+      go false = append-nil (take waiting out)
 
--- nothing is handed over only where there is room
-step-written : (out : List ℕ) (waiting : ℕ) {v : Bool} → (leb (waiting + 4 * room) (length out) ≡ true → v ≡ true) → 4 * room ≤ length out
-    → handedAfter out waiting ≡ [] → v ≡ true
-unfolding handedAfter
-step-written out waiting {v} f h = go (leb (waiting + 4 * room) (length out)) refl
-  where
-    go : (b : Bool) → leb (waiting + 4 * room) (length out) ≡ b → pick b [] (take waiting out) ≡ [] → v ≡ true
-    go true e z = f e
-    go false e z =
-        let l : length out < waiting + 4 * room = leb-false (waiting + 4 * room) (length out) e in
-        absurd (omega (arith, ap length z, length-take waiting out))
+  -- what stays leaves room
+  room-kept : 4 * room ≤ length out → waitingAfter follows out waiting + 4 * room ≤ length out
+  unfolding waitingAfter
+  room-kept h = go follows (leb (waiting + 4 * room) (length out)) refl
+    where
+      go : (f b : Bool) → leb (waiting + 4 * room) (length out) ≡ b → pick (pick f b false) waiting 0 + 4 * room ≤ length out
+      go true true e = leb-true (waiting + 4 * room) (length out) e
+      go true false e = omega arith
+      go false b e = omega arith
 
-module _ (s : Reading) (line : List ℕ) (j : Journal) (reply out : List ℕ) (waiting : ℕ) where
+  -- the code's way: of no bytes none waits and none is handed over
+  pub kept-none : waiting ≡ 0 → waiting ≡ waitingAfter follows out waiting
+  unfolding waitingAfter
+  kept-none e = go (stays follows (length out) waiting)
+    where
+      go : (b : Bool) → waiting ≡ pick b waiting 0
+      go true = refl
+      go false = e
+
+  pub kept-all : {b : Bool} → b ≡ stays follows (length out) waiting → b ≡ true → waiting ≡ waitingAfter follows out waiting
+  unfolding waitingAfter
+  kept-all e f = rw (sym e ∙ f)
+
+  pub over-all : {b : Bool} → b ≡ stays follows (length out) waiting → b ≡ false → 0 ≡ waitingAfter follows out waiting
+  unfolding waitingAfter
+  over-all e f = rw (sym e ∙ f)
+
+  -- where some wait and do not stay some are handed over
+  pub over-some : {b v : Bool} → b ≡ stays follows (length out) waiting → b ≡ false → (waiting ≡ 0 → ⊥) → waiting ≤ length out
+      → handedAfter follows out waiting ≡ [] → v ≡ true
+  unfolding handedAfter
+  over-some e f n h z =
+      let t : take waiting out ≡ [] = sym (ap (λ (d : Bool). pick d [] (take waiting out)) (sym e ∙ f)) ∙ z in
+      absurd (n (omega (arith, ap length t, length-take waiting out)))
+
+-- ---- a step
+
+module _ (s : Reading) (block line : List ℕ) (j : Journal) (reply out : List ℕ) (waiting : ℕ) where
+  abbrev text : List ℕ
+  text = lineText j reply (take (s .used) line) (s .ended)
+
+  abbrev follows : Bool
+  follows = hasLine (left block (s .from) (s .until))
+
   pub step-made : {a : Journal} {b x : List ℕ} {w q : ℕ} {v : Bool} {R : Type 0} → isLine (s .failed) (s .ended) (s .used) ≡ true
-      → (w ≡ waitingAfter (length out) waiting) × (leb (waiting + 4 * room) (length out) ≡ true → v ≡ true)
+      → (w ≡ waitingAfter follows x q) × (q ≤ length x → handedAfter follows x q ≡ [] → v ≡ true)
       → (a ≡ lineTurn j reply (take (s .used) line) (s .ended) .turn .journal)
       × ((b ≡ lineTurn j reply (take (s .used) line) (s .ended) .reply)
-      × ((x ≡ printed out w (lineText j reply (take (s .used) line) (s .ended)))
-      × ((q ≡ behind out w (lineText j reply (take (s .used) line) (s .ended)))
-      × (w + 4 * room ≤ length out → take q x ≡ take w out ++ lineText j reply (take (s .used) line) (s .ended)))))
+      × ((x ≡ printed out waiting text) × ((q ≡ behind out waiting text) × (waiting + 4 * room ≤ length out → take q x ≡ take waiting out ++ text))))
       → R
-      → (a ≡ stepOf s line j reply out waiting .journal)
-      × ((b ≡ stepOf s line j reply out waiting .reply)
-      × ((x ≡ stepOf s line j reply out waiting .out)
-      × ((q ≡ stepOf s line j reply out waiting .waiting)
-      × ((4 * room ≤ length out → stepOf s line j reply out waiting .handed ++ take q x ≡ take waiting out ++ stepText s line j reply)
-      × ((4 * room ≤ length out → stepOf s line j reply out waiting .handed ≡ [] → v ≡ true) × R)))))
+      → (a ≡ stepOf s block line j reply out waiting .journal)
+      × ((b ≡ stepOf s block line j reply out waiting .reply)
+      × ((x ≡ stepOf s block line j reply out waiting .out)
+      × ((w ≡ stepOf s block line j reply out waiting .waiting)
+      × ((waiting + 4 * room ≤ length out → stepOf s block line j reply out waiting .handed ++ take w x ≡ take waiting out ++ stepText s line j reply)
+      × ((waiting + 4 * room ≤ length out → stepOf s block line j reply out waiting .handed ≡ [] → v ≡ true) × R)))))
   unfolding stepOf stepText taking
-  step-made {x = x} {w = w} {q = q} e f g r =
-      rw e
-      (g .0, (g .1 .0, (g .1 .1 .0 ∙ ap (λ (n : ℕ). printed out n (lineText j reply (take (s .used) line) (s .ended))) (f .0), (g .1 .1 .1 .0 ∙ ap (λ (n : ℕ). behind out n (lineText j reply (take (s .used) line) (s .ended))) (f .0), (step-whole out waiting w q x _ (f .0) (g .1 .1 .1 .1), (step-written out waiting (f .1), r))))))
+  step-made {x = x} {w = w} {q = q} {v = v} e f g r =
+      let p : x ≡ printed out waiting text = g .1 .1 .0 in
+      let k : q ≡ behind out waiting text = g .1 .1 .1 .0 in
+      let over : handedAfter follows x q ≡ handedAfter follows (printed out waiting text) (behind out waiting text) = rw (p, k) in
+      let there : waiting + 4 * room ≤ length out → handedAfter follows (printed out waiting text) (behind out waiting text) ++ take w x ≡ take waiting out ++ text =
+      λ h. ap (λ (d : List ℕ). d ++ take w x) (sym over) ∙ ap (λ (n : ℕ). handedAfter follows x q ++ take n x) (f .0) ∙ all-there follows x q ∙ g .1 .1 .1 .1 h
+      in
+      let within : waiting + 4 * room ≤ length out → q ≤ length x =
+      λ h. omega (arith, k, behind-within out waiting text (omega arith), ap length p, length-printed out waiting text)
+      in
+      rw e (g .0, (g .1 .0, (p, (f .0 ∙ rw (p, k), (there, (λ h z. f .1 (within h) (over ∙ z), r))))))
 
   pub step-left : {R : Type 0} → isLine (s .failed) (s .ended) (s .used) ≡ false
       → R
-      → (j ≡ stepOf s line j reply out waiting .journal)
-      × ((reply ≡ stepOf s line j reply out waiting .reply)
-      × ((out ≡ stepOf s line j reply out waiting .out)
-      × ((waiting ≡ stepOf s line j reply out waiting .waiting)
-      × ((4 * room ≤ length out → stepOf s line j reply out waiting .handed ++ take waiting out ≡ take waiting out ++ stepText s line j reply)
-      × ((4 * room ≤ length out → stepOf s line j reply out waiting .handed ≡ [] → true ≡ true) × R)))))
+      → (j ≡ stepOf s block line j reply out waiting .journal)
+      × ((reply ≡ stepOf s block line j reply out waiting .reply)
+      × ((out ≡ stepOf s block line j reply out waiting .out)
+      × ((waiting ≡ stepOf s block line j reply out waiting .waiting)
+      × ((waiting + 4 * room ≤ length out → stepOf s block line j reply out waiting .handed ++ take waiting out ≡ take waiting out ++ stepText s line j reply)
+      × ((waiting + 4 * room ≤ length out → stepOf s block line j reply out waiting .handed ≡ [] → true ≡ true) × R)))))
   unfolding stepOf stepText
   step-left e r = rw e (refl, (refl, (refl, (refl, (λ _. sym (append-nil (take waiting out)), (λ _ _. refl, r))))))
 
-  room-within : (t : Bool) → leb (waiting + 4 * room) (length out) ≡ t → pick t waiting 0 ≤ length out
-  room-within true e = omega (arith, leb-true (waiting + 4 * room) (length out) e)
-  room-within false e = omega arith
+  kept : (t : Bool) → waiting + 4 * room ≤ length out
+      → pick {A = State} t (taking (state j reply out waiting []) (take (s .used) line, s .ended) follows) (state j reply out waiting []) .waiting + 4 * room ≤ length out
+  unfolding taking
+  kept true h =
+      omega (
+        arith,
+        length-printed out waiting text,
+        room-kept follows (printed out waiting text) (behind out waiting text) (omega (arith, length-printed out waiting text)),
+      )
+  kept false h = h
 
-  within : (t : Bool) → waiting ≤ length out
-      → pick {A = State} t (taking (state j reply out waiting []) (take (s .used) line, s .ended)) (state j reply out waiting []) .waiting ≤ length out
-  unfolding waitingAfter taking
-  within true h = behind-within out _ _ (room-within (leb (waiting + 4 * room) (length out)) refl)
-  within false h = h
-
-  -- what waits stands in the buffer
-  pub step-within : {w size : ℕ} → w ≡ stepOf s line j reply out waiting .waiting → length out ≡ size → waiting ≤ size → w ≤ size
+  -- behind a step too there is room for a line's output lines
+  pub step-room : {w size : ℕ} → w ≡ stepOf s block line j reply out waiting .waiting → length out ≡ size → waiting + 4 * room ≤ size → w + 4 * room ≤ size
   unfolding stepOf
-  step-within e f h = rw (e, ← f) (within (isLine (s .failed) (s .ended) (s .used)) (rw f h))
+  step-room e f h = rw (e, ← f) (kept (isLine (s .failed) (s .ended) (s .used)) (rw f h))
 
 pub opened-within : (o t : List ℕ) {q : ℕ} → q ≡ behind o 0 t → q ≤ length o
 opened-within o t e = rw e (behind-within o 0 t (omega arith))

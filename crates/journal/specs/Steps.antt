@@ -1,12 +1,14 @@
 -- What the program makes of a line that it read, and of line after line (RULES.md, sections 12.1 and 12.7).
 use Prim.Native.Nat.{ℕ, _+_, _*_}
-use mathlib.Core.Bool.{Bool}
+use mathlib.Core.Bool.{Bool, false}
+use mathlib.Core.Path.{_≡_}
 use mathlib.Core.List.{List, [], _∷_, _++_}
 use lib.Dec.{ltb, leb}
 use lib.ListN.{length, take}
 use Rattle.prelude.specs.Choice.{pick, both, either, no}
 use Rattle.text.specs.Printed.{printed, behind}
 use Rattle.line_program.specs.declared.Reading.{Reading}
+use Rattle.line_program.specs.Reads.{left, hasLine}
 use Rattle.journal_prints.specs.Room.{room}
 use Rattle.journal_turns.specs.Turns.{Journal, lineTurn}
 use Rattle.journal_text.specs.Texts.{lineText}
@@ -15,13 +17,18 @@ use Rattle.journal_text.specs.Texts.{lineText}
 abbrev pub isLine : Bool → Bool → ℕ → Bool
 isLine failed ended used = both (no failed) (either ended (ltb 0 used))
 
--- the bytes that wait in an output buffer of so many bytes before a line's: none once they left less than the room of four output lines
-unfoldable pub waitingAfter : ℕ → ℕ → ℕ
-waitingAfter size waiting = pick (leb (waiting + 4 * room) size) waiting 0
+-- Whether bytes that wait in an output buffer of so many bytes stay there: a whole line follows in the block, so that the next step reads
+-- none, and they leave room for its four output lines.
+abbrev pub stays : Bool → ℕ → ℕ → Bool
+stays follows size waiting = both follows (leb (waiting + 4 * room) size)
 
--- then all that waited is handed over to be written
-unfoldable pub handedAfter : List ℕ → ℕ → List ℕ
-handedAfter out waiting = pick (leb (waiting + 4 * room) (length out)) [] (take waiting out)
+-- the bytes that wait from then on: all or none
+unfoldable pub waitingAfter : Bool → List ℕ → ℕ → ℕ
+waitingAfter follows out waiting = pick (stays follows (length out) waiting) waiting 0
+
+-- what does not stay is handed over to be written
+unfoldable pub handedAfter : Bool → List ℕ → ℕ → List ℕ
+handedAfter follows out waiting = pick (stays follows (length out) waiting) [] (take waiting out)
 
 -- the journal, the reply buffer, the output buffer, how many of its bytes wait, and the bytes that were handed over before them
 pub record State : Type 0 where
@@ -34,26 +41,42 @@ pub record State : Type 0 where
 abbrev pub state : Journal → List ℕ → List ℕ → ℕ → List ℕ → State
 state j reply out waiting handed = record { journal = j; reply = reply; out = out; waiting = waiting; handed = handed }
 
--- a line is taken: behind what waits stands what it prints
-unfoldable pub taking : State → List ℕ × Bool → State
-taking s l =
+-- a line is answered: behind what waits stands what it prints
+abbrev pub answered : State → List ℕ × Bool → State
+answered s l =
     record {
       journal = lineTurn (s .journal) (s .reply) (l .0) (l .1) .turn .journal;
       reply = lineTurn (s .journal) (s .reply) (l .0) (l .1) .reply;
-      out = printed (s .out) (waitingAfter (length (s .out)) (s .waiting)) (lineText (s .journal) (s .reply) (l .0) (l .1));
-      waiting = behind (s .out) (waitingAfter (length (s .out)) (s .waiting)) (lineText (s .journal) (s .reply) (l .0) (l .1));
-      handed = s .handed ++ handedAfter (s .out) (s .waiting);
+      out = printed (s .out) (s .waiting) (lineText (s .journal) (s .reply) (l .0) (l .1));
+      waiting = behind (s .out) (s .waiting) (lineText (s .journal) (s .reply) (l .0) (l .1));
+      handed = s .handed;
     }
 
--- lines are taken, each on what the one before it left
-unfoldable pub taken : State → List (List ℕ × Bool) → State
-taken s [] = s
-taken s (l ∷ rest) = taken (taking s l) rest
+-- it is taken: answered, and then what waits stays or is handed over, by whether a whole line follows it in the block
+unfoldable pub taking : State → List ℕ × Bool → Bool → State
+taking s l follows =
+    record {
+      journal = answered s l .journal;
+      reply = answered s l .reply;
+      out = answered s l .out;
+      waiting = waitingAfter follows (answered s l .out) (answered s l .waiting);
+      handed = s .handed ++ handedAfter follows (answered s l .out) (answered s l .waiting);
+    }
 
--- one step: the line that was read, the first bytes of its buffer, is taken; where there is none nothing changes
-unfoldable pub stepOf : Reading → List ℕ → Journal → List ℕ → List ℕ → ℕ → State
-stepOf s line j reply out waiting =
-    pick (isLine (s .failed) (s .ended) (s .used)) (taking (state j reply out waiting []) (take (s .used) line, s .ended)) (state j reply out waiting [])
+-- Lines are taken, each on what the one before it left. Whether a whole line follows each in the block is said beside them; where that
+-- is not said none does.
+unfoldable pub taken : State → List (List ℕ × Bool) → List Bool → State
+taken s [] follow = s
+taken s (l ∷ rest) [] = taken (taking s l false) rest []
+taken s (l ∷ rest) (follows ∷ follow) = taken (taking s l follows) rest follow
+
+-- one step: the line that was read, the first bytes of its buffer, is taken, by what the block has left behind it; where there is none
+-- nothing changes
+unfoldable pub stepOf : Reading → List ℕ → List ℕ → Journal → List ℕ → List ℕ → ℕ → State
+stepOf s block line j reply out waiting =
+    pick (isLine (s .failed) (s .ended) (s .used))
+    (taking (state j reply out waiting []) (take (s .used) line, s .ended) (hasLine (left block (s .from) (s .until))))
+    (state j reply out waiting [])
 
 -- what its line prints
 unfoldable pub stepText : Reading → List ℕ → Journal → List ℕ → List ℕ
@@ -62,3 +85,9 @@ stepText s line j reply = pick (isLine (s .failed) (s .ended) (s .used)) (lineTe
 -- all bytes for the output so far: those handed over, and behind them those that wait
 abbrev pub put : State → List ℕ
 put s = s .handed ++ take (s .waiting) (s .out)
+
+-- ---- laws
+
+-- behind a line that no whole line follows in the block nothing waits: before the next read all that was printed is handed over
+abbrev pub NothingWaits : Type 0
+NothingWaits = (s : State) (l : List ℕ × Bool) → taking s l false .waiting ≡ 0

@@ -1,4 +1,5 @@
-// Replays a journal: reads it from standard input, and writes what its lines print to standard output (docs/RULES.md, section 12).
+// Replays a journal: reads it from standard input, and writes what its lines print to standard output (docs/RULES.md, section 12). Before
+// each read that may wait all that was printed is written, so that a host can write line by line and read what each does.
 ghost use mathlib.Core.Path.{_≡_};
 ghost use mathlib.Core.Bool.{true};
 ghost use Prim.Native.Nat.{_+_, _*_, _≤_};
@@ -6,14 +7,14 @@ ghost use lib.Dec.{leb};
 ghost use lib.ListN.{length, take, replicate};
 ghost use mathlib.Core.List.{[], _++_};
 ghost use Rattle.wire.specs.Frame.{maxFrameSize};
-ghost use Rattle.line_program.specs.Reads.{left, NextLine};
+ghost use Rattle.line_program.specs.Reads.{left, hasLine, NextLine};
 ghost use Rattle.journal_prints.specs.Room.{room};
 ghost use Rattle.ledger.specs.Ledger.{tablesOf, emptyLedger};
 ghost use Rattle.lent.specs.Carried.{noFrame, noAims};
 ghost use Rattle.journal_turns.specs.declared.State.{State as Numbers};
 ghost use Rattle.lines.specs.Lines.{longest};
 ghost use Rattle.journal_turns.specs.Turns.{whole};
-ghost use Rattle.journal.specs.Steps.{isLine, waitingAfter, state, stepOf, stepText};
+ghost use Rattle.journal.specs.Steps.{isLine, stays, waitingAfter, handedAfter, state, stepOf, stepText};
 ghost use Rattle.journal.specs.Runs.{Ran, Replayed};
 use frames::FrameBytes;
 use journal_turns::State;
@@ -63,12 +64,28 @@ fn has_room(size: usize, waiting: usize) -> bool
     false
 }
 
-// Writes what waits where less than the room of a line is left.
-fn make_room(out: &[u8], waiting: usize) -> Waiting
-    ensures bytes { λ r. ⌜ r .bytes ≡ waitingAfter (length (now (out .entry))) waiting ⌝ }
-    ensures written { λ r. ⌜ (leb (waiting + 4 * room) (length (now (out .entry))) ≡ true → r .written ≡ true) ⌝ }
+// Whether what waits may stay: the next line needs no read, and there is room for what it prints.
+fn may_stay(block: &[u8], from: usize, until: usize, size: usize, waiting: usize) -> bool
+    ensures { λ r. ⌜ r ≡ stays (hasLine (left (now (block .entry)) from until)) size waiting ⌝ }
 {
-    if has_room(out.len(), waiting) {
+    if line_program::has_line(block, from, until) {
+        return has_room(size, waiting);
+    }
+    false
+}
+
+// Writes what waits unless it may stay. Where nothing waits nothing is written, so that nothing fails.
+fn hand_over(block: &[u8], from: usize, until: usize, out: &[u8], waiting: usize) -> Waiting
+    ensures bytes { λ r. ⌜ r .bytes ≡ waitingAfter (hasLine (left (now (block .entry)) from until)) (now (out .entry)) waiting ⌝ }
+    ensures written { λ r. ⌜ (waiting ≤ length (now (out .entry)) → handedAfter (hasLine (left (now (block .entry)) from until)) (now (out .entry)) waiting ≡ [] → r .written ≡ true) ⌝ }
+{
+    if waiting == 0 {
+        return Waiting {
+            bytes: waiting,
+            written: true,
+        };
+    }
+    if may_stay(block, from, until, out.len(), waiting) {
         return Waiting {
             bytes: waiting,
             written: true,
@@ -81,7 +98,7 @@ fn make_room(out: &[u8], waiting: usize) -> Waiting
     }
 }
 
-// Reads the next line and gathers what it prints.
+// Reads the next line, gathers what it prints, and hands over what waits before the next read.
 fn take_step(
     block: &mut [u8],
     line: &mut [u8],
@@ -96,18 +113,17 @@ fn take_step(
     j: State,
     waiting: usize,
 ) -> Step
-    ensures journal { λ r. ⌜ whole (r .state) (now (connect .exit)) (now (targets .exit)) (tablesOf (now (ledger .exit))) (now (ledger .exit)) (now (sent .exit)) ≡ stepOf (r .reading) (now (line .exit)) (whole j (now (connect .entry)) (now (targets .entry)) (tablesOf (now (ledger .entry))) (now (ledger .entry)) (now (sent .entry))) (now (reply .entry)) (now (out .entry)) waiting .journal ⌝ }
-    ensures reply { λ r. ⌜ now (reply .exit) ≡ stepOf (r .reading) (now (line .exit)) (whole j (now (connect .entry)) (now (targets .entry)) (tablesOf (now (ledger .entry))) (now (ledger .entry)) (now (sent .entry))) (now (reply .entry)) (now (out .entry)) waiting .reply ⌝ }
-    ensures out { λ r. ⌜ now (out .exit) ≡ stepOf (r .reading) (now (line .exit)) (whole j (now (connect .entry)) (now (targets .entry)) (tablesOf (now (ledger .entry))) (now (ledger .entry)) (now (sent .entry))) (now (reply .entry)) (now (out .entry)) waiting .out ⌝ }
-    ensures waiting { λ r. ⌜ r .waiting ≡ stepOf (r .reading) (now (line .exit)) (whole j (now (connect .entry)) (now (targets .entry)) (tablesOf (now (ledger .entry))) (now (ledger .entry)) (now (sent .entry))) (now (reply .entry)) (now (out .entry)) waiting .waiting ⌝ }
-    ensures whole { λ r. ⌜ (4 * room ≤ length (now (out .entry)) → stepOf (r .reading) (now (line .exit)) (whole j (now (connect .entry)) (now (targets .entry)) (tablesOf (now (ledger .entry))) (now (ledger .entry)) (now (sent .entry))) (now (reply .entry)) (now (out .entry)) waiting .handed ++ take (r .waiting) (now (out .exit)) ≡ take waiting (now (out .entry)) ++ stepText (r .reading) (now (line .exit)) (whole j (now (connect .entry)) (now (targets .entry)) (tablesOf (now (ledger .entry))) (now (ledger .entry)) (now (sent .entry))) (now (reply .entry))) ⌝ }
-    ensures written { λ r. ⌜ (4 * room ≤ length (now (out .entry)) → stepOf (r .reading) (now (line .exit)) (whole j (now (connect .entry)) (now (targets .entry)) (tablesOf (now (ledger .entry))) (now (ledger .entry)) (now (sent .entry))) (now (reply .entry)) (now (out .entry)) waiting .handed ≡ [] → r .written ≡ true) ⌝ }
+    ensures journal { λ r. ⌜ whole (r .state) (now (connect .exit)) (now (targets .exit)) (tablesOf (now (ledger .exit))) (now (ledger .exit)) (now (sent .exit)) ≡ stepOf (r .reading) (now (block .exit)) (now (line .exit)) (whole j (now (connect .entry)) (now (targets .entry)) (tablesOf (now (ledger .entry))) (now (ledger .entry)) (now (sent .entry))) (now (reply .entry)) (now (out .entry)) waiting .journal ⌝ }
+    ensures reply { λ r. ⌜ now (reply .exit) ≡ stepOf (r .reading) (now (block .exit)) (now (line .exit)) (whole j (now (connect .entry)) (now (targets .entry)) (tablesOf (now (ledger .entry))) (now (ledger .entry)) (now (sent .entry))) (now (reply .entry)) (now (out .entry)) waiting .reply ⌝ }
+    ensures out { λ r. ⌜ now (out .exit) ≡ stepOf (r .reading) (now (block .exit)) (now (line .exit)) (whole j (now (connect .entry)) (now (targets .entry)) (tablesOf (now (ledger .entry))) (now (ledger .entry)) (now (sent .entry))) (now (reply .entry)) (now (out .entry)) waiting .out ⌝ }
+    ensures waiting { λ r. ⌜ r .waiting ≡ stepOf (r .reading) (now (block .exit)) (now (line .exit)) (whole j (now (connect .entry)) (now (targets .entry)) (tablesOf (now (ledger .entry))) (now (ledger .entry)) (now (sent .entry))) (now (reply .entry)) (now (out .entry)) waiting .waiting ⌝ }
+    ensures whole { λ r. ⌜ (waiting + 4 * room ≤ length (now (out .entry)) → stepOf (r .reading) (now (block .exit)) (now (line .exit)) (whole j (now (connect .entry)) (now (targets .entry)) (tablesOf (now (ledger .entry))) (now (ledger .entry)) (now (sent .entry))) (now (reply .entry)) (now (out .entry)) waiting .handed ++ take (r .waiting) (now (out .exit)) ≡ take waiting (now (out .entry)) ++ stepText (r .reading) (now (line .exit)) (whole j (now (connect .entry)) (now (targets .entry)) (tablesOf (now (ledger .entry))) (now (ledger .entry)) (now (sent .entry))) (now (reply .entry))) ⌝ }
+    ensures written { λ r. ⌜ (waiting + 4 * room ≤ length (now (out .entry)) → stepOf (r .reading) (now (block .exit)) (now (line .exit)) (whole j (now (connect .entry)) (now (targets .entry)) (tablesOf (now (ledger .entry))) (now (ledger .entry)) (now (sent .entry))) (now (reply .entry)) (now (out .entry)) waiting .handed ≡ [] → r .written ≡ true) ⌝ }
     ensures read { λ r. ⌜ NextLine (now (line .entry)) (left (now (block .entry)) from until) (now (block .exit)) (now (line .exit)) (r .reading) ⌝ }
 {
     let s = line_program::next_line(block, line, from, until);
     if is_line(s.failed, s.ended, s.used) {
         let used = s.used;
-        let w = make_room(out, waiting);
         let a = journal_text::answer_line(
             j,
             connect,
@@ -118,13 +134,14 @@ fn take_step(
             &line[..used],
             s.ended,
             out,
-            w.bytes,
+            waiting,
         );
         let next = a.state;
+        let w = hand_over(block, s.from, s.until, out, a.next);
         return Step {
             reading: s,
             state: next,
-            waiting: a.next,
+            waiting: w.bytes,
             written: w.written,
         };
     }

@@ -2,7 +2,7 @@
 use mathlib.Core.Path.{_≡_, refl, sym, ap, subst, _∙_}
 use mathlib.Core.List.{List, [], _∷_, _++_, append-nil, append-assoc}
 use mathlib.Core.Bool.{Bool, true, false, not}
-use Prim.Native.Nat.{ℕ, suc, _+_, _*_, _<_, _≤_, min}
+use Prim.Native.Nat.{ℕ, zero, suc, _+_, _*_, _-_, _<_, _≤_, min}
 use native.Mathlib.Omega.{arith}
 use lib.Dec.{ltb, eqb}
 use lib.ListN.{length, getD, take, drop, length-append, length-take, length-drop, drop-of-length-le}
@@ -16,7 +16,7 @@ use Rattle.lines.specs.Lines.{textFrom, endFrom, gathered}
 use Rattle.lines.specs.declared.Gathered.{Gathered}
 use Rattle.lines.proofs.Feeds.{joined}
 use Rattle.line_program.specs.declared.Reading.{Reading}
-use Rattle.line_program.specs.Reads.{left, feed, refilled, Read, Turned}
+use Rattle.line_program.specs.Reads.{left, hasLine, feed, refilled, Read, Turned}
 
 -- ---- line feeds
 
@@ -194,7 +194,7 @@ by-read block₀ block line used from until {r} h e k z = record { read = read; 
     }
 
 -- a place past the block's end is its end
-within : (block : List ℕ) (from until : ℕ) → left block from (min until (length block)) ≡ left block from until
+pub within : (block : List ℕ) (from until : ℕ) → left block from (min until (length block)) ≡ left block from until
 within block from until = go (ltb (length block) until) refl
   where
     go : (t : Bool) → ltb (length block) until ≡ t → left block from (min until (length block)) ≡ left block from until
@@ -210,3 +210,56 @@ begun line block from until {stop} e =
     subst (λ (had : List ℕ). Turned 0 line 0 had block line (record { used = 0; ended = false; more = true; failed = false; from = from; until = stop }))
     (ap (λ (k : ℕ). left block from k) e ∙ within block from until)
     (record { read = unread line block (record { used = 0; ended = false; more = true; failed = false; from = from; until = stop }) refl refl (λ f. apart (sym f)); taken = λ _ _. omega arith })
+
+-- ---- whole lines that are left
+
+-- a part of a block, cut from either end first
+part-of : (from until n : ℕ) (s : List ℕ) → n ≡ until - from → drop from (take until s) ≡ take n (drop from s)
+part-of zero until n s h = let k : n ≡ until = omega arith in rw k
+part-of (suc from) zero n s h = let k : n ≡ 0 = omega arith in rw k
+part-of (suc from) (suc until) n [] h = go n
+  where
+    go : (n : ℕ) → [] ≡ take {A = ℕ} n []
+    go zero = refl
+    go (suc n) = refl
+part-of (suc from) (suc until) n (b ∷ s) h = part-of from until n s (omega arith)
+
+module _ (block : List ℕ) (from until : ℕ) {stop : ℕ} (e : stop ≡ min until (length block)) where
+  pub none-left : stop ≤ from → false ≡ hasLine (left block from until)
+  unfolding hasLine
+  none-left h =
+      sym (le-ltb (lengthBefore 10 (left block from until)) (length (left block from until)) (omega (arith, length-drop from (take until block), length-take until block)))
+
+  pub tested : {n : ℕ} → from < stop → n ≡ lengthBefore 10 (take (stop - from) (drop from block)) → ltb n (stop - from) ≡ hasLine (left block from until)
+  unfolding hasLine
+  tested h f =
+      let same : take (stop - from) (drop from block) ≡ left block from until =
+      sym (part-of from stop (stop - from) block refl) ∙ ap (λ (k : ℕ). left block from k) e ∙ within block from until
+      in
+      let size : length (left block from until) ≡ stop - from = omega (arith, length-drop from (take until block), length-take until block) in
+      rw (f, same, size)
+
+-- a part of a text without a line feed has none
+plain-part : (s t : List ℕ) → lengthBefore 10 (s ++ t) ≡ length (s ++ t) → lengthBefore 10 s ≡ length s
+unfolding lengthBefore
+plain-part [] t h = refl
+plain-part (b ∷ s) t h = go (eqb b 10) h (plain-part s t)
+  where
+    go : (d : Bool) → pick d 0 (suc (lengthBefore 10 (s ++ t))) ≡ suc (length (s ++ t))
+        → (lengthBefore 10 (s ++ t) ≡ length (s ++ t) → lengthBefore 10 s ≡ length s) → pick d 0 (suc (lengthBefore 10 s)) ≡ suc (length s)
+    go true k f = absurd (omega arith)
+    go false k f = ap suc (f (omega arith))
+
+-- what was read to the input's end without a line feed had no whole line
+pub had-none : {line : List ℕ} {used : ℕ} {had block after : List ℕ} {r : Reading} → Read line used had block after r → r .ended ≡ false → r .more ≡ false
+    → hasLine had ≡ false
+unfolding hasLine
+had-none {had = had} {block = block} {r = r} x e m =
+    let w : had ++ x .brought ≡ x .text =
+    x .whole
+    ∙ ap (λ (t : Bool). x .text ++ (feed t ++ left block (r .from) (r .until))) e
+    ∙ ap (λ (s : List ℕ). x .text ++ s) (x .dry m .1)
+    ∙ append-nil (x .text)
+    in
+    let p : lengthBefore 10 had ≡ length had = plain-part had (x .brought) (ap (lengthBefore 10) w ∙ x .plain ∙ sym (ap length w)) in
+    le-ltb (lengthBefore 10 had) (length had) (omega arith)

@@ -14,6 +14,10 @@ use Rattle.line_program.specs.declared.Reading.{Reading}
 abbrev pub left : List ℕ → ℕ → ℕ → List ℕ
 left block from until = drop from (take until block)
 
+-- whether bytes have a whole line: a line feed, the byte 10, stands among them
+unfoldable pub hasLine : List ℕ → Bool
+hasLine bytes = ltb (lengthBefore 10 bytes) (length bytes)
+
 -- a block that was read, up to a place; there is no more where it has no byte
 abbrev pub refilled : ℕ → ℕ → Bool → Reading
 refilled used until failed = record { used = used; ended = false; more = ltb 0 until; failed = failed; from = 0; until = until }

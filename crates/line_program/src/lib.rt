@@ -4,7 +4,7 @@ ghost use mathlib.Core.Path.{_≡_};
 ghost use mathlib.Core.Bool.{true};
 ghost use Prim.Native.Nat.{_≤_};
 ghost use lib.ListN.{length};
-ghost use Rattle.line_program.specs.Reads.{left, refilled, Turned, NextLine};
+ghost use Rattle.line_program.specs.Reads.{left, hasLine, refilled, Turned, NextLine};
 use libc::STDIN_FILENO;
 use libc::STDOUT_FILENO;
 
@@ -91,6 +91,17 @@ pub fn next_line(block: &mut [u8], line: &mut [u8], from: usize, until: usize) -
         turns -= 1;
     }
     s
+}
+
+// Whether a whole line stands in the block from `from` up to `until`: then the next line needs no read.
+pub fn has_line(block: &[u8], from: usize, until: usize) -> bool
+    ensures { λ r. ⌜ r ≡ hasLine (left (now (block .entry)) from until) ⌝ }
+{
+    let stop = text::least(until, block.len());
+    if stop <= from {
+        return false;
+    }
+    text::length_before(&block[from..stop], 10) < stop - from
 }
 
 // Writes the first n bytes of a text to standard output: whether there are so many and all were written.

@@ -1,7 +1,7 @@
 use mathlib.Core.Path.{_≡_, refl, sym, _∙_}
 use mathlib.Core.List.{List}
 use mathlib.Core.Logic.{⊎-elim}
-use Prim.Native.Nat.{ℕ, _*_, _≤_}
+use Prim.Native.Nat.{ℕ, _+_, _*_, _≤_}
 use native.Mathlib.Omega.{arith}
 use lib.ListN.{length}
 use Rattle.prelude.specs.Numbers.{maxU64}
@@ -11,7 +11,7 @@ use Rattle.lines.specs.Lines.{longest}
 use Rattle.journal_turns.specs.Turns.{whole}
 use Rattle.journal.specs.Steps.{State}
 use Rattle.line_program.proofs.GoingOn.{apart}
-use Rattle.journal.proofs.Stepping.{step-within}
+use Rattle.journal.proofs.Stepping.{step-room}
 use Rattle.journal.proofs.Running.{Going, begin, going, finished}
 use borrow.Author.Needs.{needs}
 use Rattle.journal.proofs.run.Statement.{statement}
@@ -19,8 +19,8 @@ use Rattle.journal.proofs.run.Tie as tie
 
 abbrev Inv-loop : tie.InvT-loop
 Inv-loop block₀ line₀ connect₀ targets₀ sent₀ ledger₀ reply₀ out₀ s₀ turns₀ block line connect targets sent ledger reply out s turns =
-    (length block ≡ length block₀) × (length line ≡ length line₀) × (length reply ≡ length reply₀) × (length out ≡ length out₀) × (s .waiting ≤ length out₀)
-    × (longest ≤ length line) × (4 * room ≤ length out)
+    (length block ≡ length block₀) × (length line ≡ length line₀) × (length reply ≡ length reply₀) × (length out ≡ length out₀)
+    × (longest ≤ length line) × (s .waiting + 4 * room ≤ length out)
     × ((before : State) (had : List ℕ) → Going before had block₀ (whole (s₀ .state) connect₀ targets₀ (tablesOf ledger₀) ledger₀ sent₀) reply₀ out₀ s₀ turns₀
     → Going before had block (whole (s .state) connect targets (tablesOf ledger) ledger sent) reply out s turns)
 
@@ -31,7 +31,7 @@ take-step-requires : tie.Need-take-step-requires Inv-loop μ-loop
 take-step-requires c κs = search needs
 
 loop-holds : tie.Need-loop-holds Inv-loop μ-loop
-loop-holds c = (refl, refl, refl, refl, step-within _ _ _ _ _ _ (c .before .before .before .before .before .before .before .before .take-step .ensures .1 .1 .1 .0) (sym (c .before .before .before .before .before .before .before .before .take-step .kept .1 .1 .1 .1 .1 .1 .1 .0)) (omega arith), omega (arith, c .before .before .before .before .before .before .before .before .take-step .kept .1 .0, c .before .before .before .before .before .before .before .before .before .before .before .before .before .before .before .before .before .before .before .before .before .pre), omega (arith, c .before .before .before .before .before .before .before .before .take-step .kept .1 .1 .1 .1 .1 .1 .1 .0, c .before .before .before .before .before .before .before .before .before .before .before .before .before .before .before .before .before .before .before .before .before .pre), λ before had g. g)
+loop-holds c = (refl, refl, refl, refl, omega (arith, c .before .before .before .before .before .before .before .before .take-step .kept .1 .0, c .before .before .before .before .before .before .before .before .before .before .before .before .before .before .before .before .before .before .before .before .before .pre), step-room _ _ _ _ _ _ _ (c .before .before .before .before .before .before .before .before .take-step .ensures .1 .1 .1 .0) (sym (c .before .before .before .before .before .before .before .before .take-step .kept .1 .1 .1 .1 .1 .1 .1 .0)) (omega (arith, c .before .before .before .before .before .before .before .before .take-step .kept .1 .1 .1 .1 .1 .1 .1 .0, c .before .before .before .before .before .before .before .before .before .before .before .before .before .before .before .before .before .before .before .before .before .pre)), λ before had g. g)
 
 take-step-requires-2 : tie.Need-take-step-requires-2 Inv-loop μ-loop
 take-step-requires-2 c κs = search needs
@@ -43,7 +43,7 @@ loop-less : tie.Need-loop-less Inv-loop μ-loop
 loop-less c = omega (arith, c .before .before .before .before .before .before .before .before .before .before .before .before .before .before .before .before .before .before .before .before .loop-test .taken)
 
 loop-again : tie.Need-loop-again Inv-loop μ-loop
-loop-again c = (c .before .before .before .before .before .before .before .before .take-step2 .kept .0 ∙ c .before .before .before .before .before .before .before .before .before .before .before .before .before .before .before .before .before .before .before .before .before .loop .inv .0, c .before .before .before .before .before .before .before .before .take-step2 .kept .1 .0 ∙ c .before .before .before .before .before .before .before .before .before .before .before .before .before .before .before .before .before .before .before .before .before .loop .inv .1, c .before .before .before .before .before .before .before .before .take-step2 .kept .1 .1 .1 .1 .1 .1 .0 ∙ c .before .before .before .before .before .before .before .before .before .before .before .before .before .before .before .before .before .before .before .before .before .loop .inv .2, c .before .before .before .before .before .before .before .before .take-step2 .kept .1 .1 .1 .1 .1 .1 .1 .0 ∙ c .before .before .before .before .before .before .before .before .before .before .before .before .before .before .before .before .before .before .before .before .before .loop .inv .3, step-within _ _ _ _ _ _ (c .before .before .before .before .before .before .before .before .take-step2 .ensures .1 .1 .1 .0) (c .before .before .before .before .before .before .before .before .before .before .before .before .before .before .before .before .before .before .before .before .before .loop .inv .3) (c .before .before .before .before .before .before .before .before .before .before .before .before .before .before .before .before .before .before .before .before .before .loop .inv .4), omega (arith, c .before .before .before .before .before .before .before .before .take-step2 .kept .1 .0, c .before .before .before .before .before .before .before .before .before .before .before .before .before .before .before .before .before .before .before .before .before .loop .inv .5), omega (arith, c .before .before .before .before .before .before .before .before .take-step2 .kept .1 .1 .1 .1 .1 .1 .1 .0, c .before .before .before .before .before .before .before .before .before .before .before .before .before .before .before .before .before .before .before .before .before .loop .inv .6), λ before had g. going (c .before .before .before .before .before .before .before .before .before .before .before .before .before .before .before .before .before .before .before .before .before .loop .inv .7 before had g .goes (c .before .before .before .before .before .before .before .before .before .before .before .before .before .before .before .before .before .before .before .if1 .taken)) (c .before .before .before .before .before .before .before .before .before .before .before .before .before .before .before .before .before .before .before .before .before .loop .inv .5) (c .before .before .before .before .before .before .before .before .before .before .before .before .before .before .before .before .before .before .before .before .before .loop .inv .6) _ (c .before .before .before .before .before .before .before .before .take-step2 .ensures) _ (omega (arith, c .before .before .before .before .before .before .before .before .before .before .before .before .before .before .before .before .before .before .before .before .loop-test .taken)))
+loop-again c = (c .before .before .before .before .before .before .before .before .take-step2 .kept .0 ∙ c .before .before .before .before .before .before .before .before .before .before .before .before .before .before .before .before .before .before .before .before .before .loop .inv .0, c .before .before .before .before .before .before .before .before .take-step2 .kept .1 .0 ∙ c .before .before .before .before .before .before .before .before .before .before .before .before .before .before .before .before .before .before .before .before .before .loop .inv .1, c .before .before .before .before .before .before .before .before .take-step2 .kept .1 .1 .1 .1 .1 .1 .0 ∙ c .before .before .before .before .before .before .before .before .before .before .before .before .before .before .before .before .before .before .before .before .before .loop .inv .2, c .before .before .before .before .before .before .before .before .take-step2 .kept .1 .1 .1 .1 .1 .1 .1 .0 ∙ c .before .before .before .before .before .before .before .before .before .before .before .before .before .before .before .before .before .before .before .before .before .loop .inv .3, omega (arith, c .before .before .before .before .before .before .before .before .take-step2 .kept .1 .0, c .before .before .before .before .before .before .before .before .before .before .before .before .before .before .before .before .before .before .before .before .before .loop .inv .4), step-room _ _ _ _ _ _ _ (c .before .before .before .before .before .before .before .before .take-step2 .ensures .1 .1 .1 .0) (sym (c .before .before .before .before .before .before .before .before .take-step2 .kept .1 .1 .1 .1 .1 .1 .1 .0)) (omega (arith, c .before .before .before .before .before .before .before .before .take-step2 .kept .1 .1 .1 .1 .1 .1 .1 .0, c .before .before .before .before .before .before .before .before .before .before .before .before .before .before .before .before .before .before .before .before .before .loop .inv .5)), λ before had g. going (c .before .before .before .before .before .before .before .before .before .before .before .before .before .before .before .before .before .before .before .before .before .loop .inv .6 before had g .goes (c .before .before .before .before .before .before .before .before .before .before .before .before .before .before .before .before .before .before .before .if1 .taken)) (c .before .before .before .before .before .before .before .before .before .before .before .before .before .before .before .before .before .before .before .before .before .loop .inv .4) (c .before .before .before .before .before .before .before .before .before .before .before .before .before .before .before .before .before .before .before .before .before .loop .inv .5) _ (c .before .before .before .before .before .before .before .before .take-step2 .ensures) _ (omega (arith, c .before .before .before .before .before .before .before .before .before .before .before .before .before .before .before .before .before .before .before .before .loop-test .taken)))
 
 same-length : tie.Need-same-length Inv-loop μ-loop
 same-length c = c .before .before .loop .inv .0 ∙ c .before .before .before .before .before .before .before .before .before .before .before .take-step .kept .0
@@ -58,7 +58,7 @@ same-length-4 : tie.Need-same-length-4 Inv-loop μ-loop
 same-length-4 c = c .before .before .loop .inv .3 ∙ c .before .before .before .before .before .before .before .before .before .before .before .take-step .kept .1 .1 .1 .1 .1 .1 .1 .0
 
 returns : tie.Need-returns Inv-loop μ-loop
-returns c = (omega (arith, c .before .before .loop .inv .4, c .before .before .before .before .before .before .before .before .before .before .before .take-step .kept .1 .1 .1 .1 .1 .1 .1 .0), finished _ _ (c .before .before .loop .inv .7 _ _ (going (begin _ _ _ _ maxU64 (omega arith)) (c .before .before .before .before .before .before .before .before .before .before .before .before .before .before .before .before .before .before .before .before .before .before .before .before .pre .0) (c .before .before .before .before .before .before .before .before .before .before .before .before .before .before .before .before .before .before .before .before .before .before .before .before .pre .1) _ (c .before .before .before .before .before .before .before .before .before .before .before .take-step .ensures) _ (omega arith))) (λ e v. ⊎-elim (λ x. apart (sym v ∙ x .2 .left)) (λ y. ⊎-elim (λ x. apart (sym e ∙ x .1 .left)) (λ x. omega (arith, x)) y) (c .before .loop-test .came)))
+returns c = (omega (arith, c .before .before .loop .inv .3, c .before .before .loop .inv .5, c .before .before .before .before .before .before .before .before .before .before .before .take-step .kept .1 .1 .1 .1 .1 .1 .1 .0), finished _ _ (c .before .before .loop .inv .6 _ _ (going (begin _ _ _ _ maxU64 (omega arith)) (c .before .before .before .before .before .before .before .before .before .before .before .before .before .before .before .before .before .before .before .before .before .before .before .before .pre .0) (c .before .before .before .before .before .before .before .before .before .before .before .before .before .before .before .before .before .before .before .before .before .before .before .before .pre .1) _ (c .before .before .before .before .before .before .before .before .before .before .before .take-step .ensures) _ (omega arith))) (λ e v. ⊎-elim (λ x. apart (sym v ∙ x .2 .left)) (λ y. ⊎-elim (λ x. apart (sym e ∙ x .1 .left)) (λ x. omega (arith, x)) y) (c .before .loop-test .came)))
 
 pub run-spec : {M : Type 1} → statement M
 run-spec = tie.close (tie.spec Inv-loop μ-loop take-step-requires loop-holds take-step-requires-2 sub-turns loop-less loop-again same-length same-length-2 same-length-3 same-length-4 returns)

@@ -1,11 +1,10 @@
 use denote.Ref.{now}
 use native.Mathlib.Omega.{arith}
 use lib.ListN.{length-take}
+use mathlib.Core.Path.{sym, _∙_}
 use Rattle.ledger.specs.Ledger.{tablesOf}
 use Rattle.journal_turns.specs.Turns.{whole}
 use Rattle.journal.proofs.Stepping.{step-made, step-left}
-use mathlib.Core.Path.{sym, _∙_}
-use borrow.Author.Tests.{le-leb, lt-leb, lt-ltb, le-ltb, eq-eqb, ne-eqb}
 use borrow.Author.Needs.{needs}
 use Rattle.journal.proofs.take_step.Statement.{statement}
 use Rattle.journal.proofs.take_step.Tie as tie
@@ -16,20 +15,20 @@ next-line-requires c κs = search needs
 is-line-requires : tie.Need-is-line-requires
 is-line-requires c κs = search needs
 
-make-room-requires : tie.Need-make-room-requires
-make-room-requires c κs = search needs
-
 slice-reshare-prefix-answer-line : tie.Need-slice-reshare-prefix-answer-line
 slice-reshare-prefix-answer-line c = search needs
 
 slice-aggregate-answer-line : tie.Need-slice-aggregate-answer-line
-slice-aggregate-answer-line c = simp length-take (omega (arith, c .before .before .before .before .before .before .before .before .before .before .before .before .before .before .next-line .ensures .0))
+slice-aggregate-answer-line c = simp length-take (omega (arith, c .before .before .before .before .before .before .before .before .before .before .before .before .next-line .ensures .0))
 
 answer-line-requires : tie.Need-answer-line-requires
 answer-line-requires c κs = search needs
 
+hand-over-requires : tie.Need-hand-over-requires
+hand-over-requires c κs = search needs
+
 same-length : tie.Need-same-length
-same-length c = c .before .before .before .before .before .before .before .before .before .before .before .before .before .before .before .before .before .before .before .before .before .next-line .kept .0
+same-length c = c .before .before .before .before .before .before .before .before .before .before .before .before .before .before .before .before .before .before .before .before .before .before .next-line .kept .0
 
 same-length-2 : tie.Need-same-length-2
 same-length-2 c = search needs
@@ -41,8 +40,7 @@ same-length-4 : tie.Need-same-length-4
 same-length-4 c = search needs
 
 returns : tie.Need-returns
-returns c =
-    step-made _ _ (whole (c .before .before .before .before .before .before .before .before .before .before .before .before .before .before .before .before .before .before .before .before .before .before .before .before .before .before .before .before .args .j) (now (c .before .before .before .before .before .before .before .before .before .before .before .before .before .before .before .before .before .before .before .before .before .before .before .before .before .before .before .before .args .connect)) (now (c .before .before .before .before .before .before .before .before .before .before .before .before .before .before .before .before .before .before .before .before .before .before .before .before .before .before .before .before .args .targets)) (tablesOf (now (c .before .before .before .before .before .before .before .before .before .before .before .before .before .before .before .before .before .before .before .before .before .before .before .before .before .before .before .before .args .ledger))) (now (c .before .before .before .before .before .before .before .before .before .before .before .before .before .before .before .before .before .before .before .before .before .before .before .before .before .before .before .before .args .ledger)) (now (c .before .before .before .before .before .before .before .before .before .before .before .before .before .before .before .before .before .before .before .before .before .before .before .before .before .before .before .before .args .sent))) _ _ _ (sym (c .before .before .before .before .before .before .before .before .before .before .before .before .before .before .before .before .is-line .ensures) ∙ c .before .before .before .before .before .before .before .before .before .before .before .before .before .before .before .if1 .taken) (c .before .before .before .before .before .before .before .before .before .before .before .before .before .make-room .ensures) (c .before .before .before .before .before .answer-line .ensures) (c .before .before .before .before .before .before .before .before .before .before .before .before .before .before .before .before .before .before .before .before .before .next-line .ensures .1 .1)
+returns c = step-made _ _ _ (whole (c .before .before .before .before .before .before .before .before .before .before .before .before .before .before .before .before .before .before .before .before .before .before .before .before .before .before .before .before .before .args .j) (now (c .before .before .before .before .before .before .before .before .before .before .before .before .before .before .before .before .before .before .before .before .before .before .before .before .before .before .before .before .before .args .connect)) (now (c .before .before .before .before .before .before .before .before .before .before .before .before .before .before .before .before .before .before .before .before .before .before .before .before .before .before .before .before .before .args .targets)) (tablesOf (now (c .before .before .before .before .before .before .before .before .before .before .before .before .before .before .before .before .before .before .before .before .before .before .before .before .before .before .before .before .before .args .ledger))) (now (c .before .before .before .before .before .before .before .before .before .before .before .before .before .before .before .before .before .before .before .before .before .before .before .before .before .before .before .before .before .args .ledger)) (now (c .before .before .before .before .before .before .before .before .before .before .before .before .before .before .before .before .before .before .before .before .before .before .before .before .before .before .before .before .before .args .sent))) _ _ _ (sym (c .before .before .before .before .before .before .before .before .before .before .before .before .before .before .before .before .before .is-line .ensures) ∙ c .before .before .before .before .before .before .before .before .before .before .before .before .before .before .before .before .if1 .taken) (c .hand-over .ensures) (c .before .before .before .before .before .before .before .before .answer-line .ensures) (c .before .before .before .before .before .before .before .before .before .before .before .before .before .before .before .before .before .before .before .before .before .before .next-line .ensures .1 .1)
 
 same-length-5 : tie.Need-same-length-5
 same-length-5 c = search needs
@@ -51,7 +49,23 @@ same-length-6 : tie.Need-same-length-6
 same-length-6 c = search needs
 
 returns-2 : tie.Need-returns-2
-returns-2 c = step-left _ _ (whole (c .before .before .before .before .before .before .before .before .before .before .before .before .before .args .j) (now (c .before .before .before .before .before .before .before .before .before .before .before .before .before .args .connect)) (now (c .before .before .before .before .before .before .before .before .before .before .before .before .before .args .targets)) (tablesOf (now (c .before .before .before .before .before .before .before .before .before .before .before .before .before .args .ledger))) (now (c .before .before .before .before .before .before .before .before .before .before .before .before .before .args .ledger)) (now (c .before .before .before .before .before .before .before .before .before .before .before .before .before .args .sent))) _ _ _ (sym (c .before .is-line .ensures) ∙ c .if1 .left) (c .before .before .before .before .before .before .next-line .ensures .1 .1)
+returns-2 c = step-left _ _ _ (whole (c .before .before .before .before .before .before .before .before .before .before .before .before .before .args .j) (now (c .before .before .before .before .before .before .before .before .before .before .before .before .before .args .connect)) (now (c .before .before .before .before .before .before .before .before .before .before .before .before .before .args .targets)) (tablesOf (now (c .before .before .before .before .before .before .before .before .before .before .before .before .before .args .ledger))) (now (c .before .before .before .before .before .before .before .before .before .before .before .before .before .args .ledger)) (now (c .before .before .before .before .before .before .before .before .before .before .before .before .before .args .sent))) _ _ _ (sym (c .before .is-line .ensures) ∙ c .if1 .left) (c .before .before .before .before .before .before .next-line .ensures .1 .1)
 
 pub take-step-spec : {M : Type 1} → statement M
-take-step-spec = tie.close (tie.spec next-line-requires is-line-requires make-room-requires slice-reshare-prefix-answer-line slice-aggregate-answer-line answer-line-requires same-length same-length-2 same-length-3 same-length-4 returns same-length-5 same-length-6 returns-2)
+take-step-spec =
+    tie.close
+    (tie.spec
+    next-line-requires
+    is-line-requires
+    slice-reshare-prefix-answer-line
+    slice-aggregate-answer-line
+    answer-line-requires
+    hand-over-requires
+    same-length
+    same-length-2
+    same-length-3
+    same-length-4
+    returns
+    same-length-5
+    same-length-6
+    returns-2)
