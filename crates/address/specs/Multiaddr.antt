@@ -18,10 +18,21 @@ bigEndian n (b ∷ bs) = bigEndian (n * 256 + b) bs
 abbrev pub number : ℕ → ℕ → List ℕ → ℕ
 number a e s = bigEndian 0 (take (e - a) (drop a s))
 
+-- the bytes beside the IP: the family's code, udp with a port of two bytes, and quic-v1
+abbrev pub beside : ℕ
+beside = 7
+
+-- the most bytes of an address of each family
+abbrev pub longest4 : ℕ
+longest4 = 4 + beside
+
+abbrev pub longest6 : ℕ
+longest6 = 16 + beside
+
 -- a family's code, n bytes of IP, udp with a port of two bytes, quic-v1, and nothing more
 unfoldable pub hasForm : ℕ → ℕ → List ℕ → Bool
 hasForm family n s =
-    both (eqb (length s) (n + 7))
+    both (eqb (length s) (n + beside))
     (both (eqb (getD s 0 0) family)
     (both (eqb (getD s (n + 1) 0) 0x91)
     (both (eqb (getD s (n + 2) 0) 0x02) (both (eqb (getD s (n + 5) 0) 0xcd) (eqb (getD s (n + 6) 0) 0x03)))))

@@ -230,12 +230,20 @@ fn number_at(s: &[u8], a: usize, e: usize) -> u64
     big_endian(&s[a..e])
 }
 
+// The bytes beside the IP: the family's code, udp with a port of two bytes, and quic-v1.
+const BESIDE: usize = 7;
+
+// The most bytes of an address of each family.
+pub const LONGEST_V4: usize = 4 + BESIDE;
+
+pub const LONGEST_V6: usize = 16 + BESIDE;
+
 // Whether the bytes are a family's code, `n` bytes of IP, udp with a port, quic-v1 and nothing more.
 fn has_form(s: &[u8], family: u8, n: usize) -> bool
     requires { ⌜ n ≤ 16 ⌝ }
     ensures { λ r. ⌜ r ≡ hasForm family n (now (s .entry)) ⌝ }
 {
-    if s.len() != n + 7 {
+    if s.len() != n + BESIDE {
         return false;
     }
     if s[0] != family {

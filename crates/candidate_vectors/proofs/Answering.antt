@@ -18,7 +18,12 @@ use Rattle.refusal.specs.declared.Refusal.{Refusal}
 use Rattle.address.specs.Words.{mayBeTarget}
 use Rattle.address.specs.declared.Ip.{Ip}
 use Rattle.address.specs.declared.Parsed.{Parsed}
-use Rattle.candidates.specs.declared.Outcome.the-variants.{Kept, Refused}
+use Rattle.vocabulary.specs.declared.Outcome.the-variants.{Accepted, Refused}
+use Rattle.wire.specs.Lists.{entries}
+use Rattle.candidates.specs.Selection as selection
+use Rattle.candidates.specs.Selection.{usual, usually, held, heldTerms, selected, own}
+use Rattle.candidates.specs.declared.Limits.{Limits}
+use Rattle.candidates.specs.declared.Terms.{Terms}
 use Rattle.candidates.specs.declared.Selection.{Selection}
 use Rattle.candidate_vectors.specs.Requests.{requestOf}
 use Rattle.candidate_vectors.specs.Answers.{badText, yesNoText, eligibleText, keptText, refusedText, selectionText, respondText, answerText, lineText}
@@ -46,13 +51,22 @@ unfolding refusedText
 refused-text w e = rw e
 
 module _ (s : Selection) where
-  pub selection-kept : s .outcome ≡ Kept → keptText (s .chosen .bytes) (s .chosen .len) ≡ selectionText s
+  pub selection-kept : s .outcome ≡ Accepted → keptText (s .chosen .bytes) (s .chosen .len) ≡ selectionText s
   unfolding selectionText
   selection-kept e = rw e
 
   pub selection-refused : {why : Refusal} → s .outcome ≡ Refused why → refusedText why ≡ selectionText s
   unfolding selectionText
   selection-refused e = rw e
+
+-- the choices by the usual limits
+module _ (bytes : List ℕ) where
+  pub usually-chosen : {t : Terms} {private : Bool} → t ≡ usually private
+      → selection.answered bytes (selected (heldTerms t) (entries bytes)) ≡ selection.answered bytes (selected (usually private) (entries bytes))
+  usually-chosen e = rw e
+
+  pub usual-own : {l : Limits} → l ≡ usual → selection.answered bytes (own (held l) (entries bytes)) ≡ selection.answered bytes (own usual (entries bytes))
+  usual-own e = rw e
 
 pub by-call : {c d : Call} (bytes : List ℕ) → c ≡ d → respondText d bytes ≡ respondText c bytes
 by-call bytes e = rw e

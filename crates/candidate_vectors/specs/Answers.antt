@@ -17,10 +17,10 @@ use Rattle.address.specs.Multiaddr.{parsed}
 use Rattle.address.specs.Words.{mayBeTarget}
 use Rattle.address.specs.declared.Parsed.{Parsed}
 use Rattle.address.specs.declared.Parsed.the-variants as parsing
-use Rattle.candidates.specs.Selection.{usual, selected, own, answered}
+use Rattle.candidates.specs.Selection.{usual, usually, selected, own, answered}
 use Rattle.candidates.specs.declared.Chosen.{Chosen}
-use Rattle.candidates.specs.declared.Outcome.{Outcome}
-use Rattle.candidates.specs.declared.Outcome.the-variants.{Kept, Refused}
+use Rattle.vocabulary.specs.declared.Outcome.{Outcome}
+use Rattle.vocabulary.specs.declared.Outcome.the-variants.{Accepted, Refused}
 use Rattle.candidates.specs.declared.Selection.{Selection}
 use Rattle.candidate_vectors.specs.Requests.{requestOf}
 use Rattle.candidate_vectors.specs.declared.Call.{Call}
@@ -45,7 +45,7 @@ unfoldable pub refusedText : Refusal → List ℕ
 refusedText why = ascii "refused why=" ++ decimal (numberOf why) ++ ascii "\n"
 
 abbrev pub outcomeText : Chosen → Outcome → List ℕ
-outcomeText c Kept = keptText (c .bytes) (c .len)
+outcomeText c Accepted = keptText (c .bytes) (c .len)
 outcomeText c (Refused why) = refusedText why
 
 unfoldable pub selectionText : Selection → List ℕ
@@ -54,7 +54,7 @@ selectionText s = outcomeText (s .chosen) (s .outcome)
 -- what is answered to a call with its bytes
 abbrev pub respondText : Call → List ℕ → List ℕ
 respondText (call.Eligible private) bytes = eligibleText private (parsed bytes)
-respondText (call.Select private) bytes = selectionText (answered bytes (selected usual private (entries bytes)))
+respondText (call.Select private) bytes = selectionText (answered bytes (selected (usually private) (entries bytes)))
 respondText call.Own bytes = selectionText (answered bytes (own usual (entries bytes)))
 respondText call.Bad bytes = badText
 

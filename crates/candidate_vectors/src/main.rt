@@ -7,11 +7,13 @@ ghost use Rattle.lines.specs.Lines.{longest};
 ghost use Rattle.candidate_vectors.specs.Requests.{badRequest, eligibleRequest, selectRequest, ownRequest, requestOf};
 ghost use Rattle.candidate_vectors.specs.Answers.{badText, yesNoText, eligibleText, keptText, refusedText, selectionText, respondText, answerText, lineText};
 use address::Parsed;
-use candidates::Outcome;
+use candidates::Limits;
 use candidates::Selection;
+use candidates::Terms;
 use fields::BytesField;
 use fields::ChoiceField;
 use refusal::Refusal;
+use vocabulary::Outcome;
 
 // ---- A line's call, and where its bytes stand in the line
 
@@ -186,7 +188,7 @@ fn put_selection(s: Selection, out: &mut [u8]) -> usize
     let chosen = s.chosen;
     let bytes = chosen.bytes;
     match outcome {
-        Outcome::Kept => put_kept(&bytes, chosen.len, out),
+        Outcome::Accepted => put_kept(&bytes, chosen.len, out),
         Outcome::Refused(why) => put_refused(why, out),
     }
 }
@@ -201,11 +203,11 @@ fn respond(call: Call, bytes: &[u8], out: &mut [u8]) -> usize
             put_eligible(private, a, out)
         }
         Call::Select(private) => {
-            let s = candidates::select_punch_candidates(bytes, private);
+            let s = candidates::select_punch_candidates(bytes, Terms::usual(private));
             put_selection(s, out)
         }
         Call::Own => {
-            let s = candidates::own_punch_candidates(bytes);
+            let s = candidates::own_punch_candidates(bytes, Limits::usual());
             put_selection(s, out)
         }
         Call::Bad => put_bad(out),

@@ -3,13 +3,14 @@
 use mathlib.Core.Path.{_≡_, refl, sym, ap, _∙_}
 use mathlib.Core.Bool.{Bool, true, false, not}
 use mathlib.Core.List.{List, [], _∷_}
-use Prim.Native.Nat.{ℕ, _+_, _≤_}
+use Prim.Native.Nat.{ℕ, _+_, _<_, _≤_}
 use native.Mathlib.Omega.{arith}
 use native.Mathlib.Nat.{add-zero}
-use borrow.Author.Tests.{eqb-true, eq-eqb}
-use lib.Dec.{eqb}
-use Rattle.prelude.specs.Choice.{both, no}
+use borrow.Author.Tests.{eqb-true, eq-eqb, leb-true, le-leb, lt-leb}
+use lib.Dec.{eqb, leb}
+use Rattle.prelude.specs.Choice.{pick, both, no}
 use Rattle.refusal.specs.declared.Refusal.the-variants.{BrokenList}
+use Rattle.vocabulary.specs.declared.Outcome.the-variants.{Accepted, Refused}
 use Rattle.wire.specs.Lists.{broken, listed}
 use Rattle.address.specs.Multiaddr.{parsed}
 use Rattle.address.specs.Words.{mayBeTarget}
@@ -17,13 +18,12 @@ use Rattle.address.specs.declared.Ip.{Ip}
 use Rattle.address.specs.declared.Parsed.{Parsed}
 use Rattle.address.specs.declared.Parsed.the-variants.{Address, Other}
 use Rattle.candidates.specs.Entries.{bit, sameFamily, sameIp, sameBytes, contains}
-use Rattle.candidates.specs.Selection.{counted, roomFor, packed, answered}
+use Rattle.candidates.specs.Selection.{most, held, counted, roomFor, packed, answered}
 use Rattle.candidates.specs.OnePass.{tallied, suits, wantedFrom}
 use Rattle.candidates.specs.declared.Source.{Source}
 use Rattle.candidates.specs.declared.Source.the-variants.{Peer, Own}
 use Rattle.candidates.specs.declared.Limits.{Limits}
 use Rattle.candidates.specs.declared.Chosen.{Chosen}
-use Rattle.candidates.specs.declared.Outcome.the-variants.{Kept, Refused}
 use Rattle.candidates.specs.declared.Counts.{Counts}
 
 pub bit-le : (b : Bool) → bit b ≤ 1
@@ -65,6 +65,21 @@ same-is a b false f g = by-test (sameBytes a b) refl
     by-test true e = g (same-true a b e)
     by-test false e = refl
 
+-- ---- a total over the most
+module _ (l : Limits) where
+  pub held-same : l .total ≤ most → l ≡ held l
+  held-same h = rw (le-leb (l .total) most h)
+
+  pub held-most : most < l .total → record { total = most; family = l .family; ip = l .ip; port = l .port } ≡ held l
+  held-most h = rw (lt-leb (l .total) most h)
+
+  pub held-small : held l .total ≤ most
+  held-small = by-test (leb (l .total) most) refl
+    where
+      by-test : (t : Bool) → leb (l .total) most ≡ t → pick t (l .total) most ≤ most
+      by-test true e = leb-true (l .total) most e
+      by-test false e = omega arith
+
 -- ---- which address is wanted
 module _ (source : Source) (xs : List (List ℕ)) (a : List ℕ) (ip : Ip) where
   pub suits-peer : {private r : Bool} → source ≡ Peer private → r ≡ mayBeTarget private ip → r ≡ suits source xs a ip
@@ -96,6 +111,6 @@ pub answer-refused : (s : List ℕ) (xs : List (List ℕ)) {b : Bool} {c : Chose
 unfolding answered
 answer-refused s xs e t q = rw (sym e ∙ t, q)
 
-pub answer-kept : (s : List ℕ) (xs : List (List ℕ)) {b : Bool} {c : Chosen} → b ≡ broken s → b ≡ false → c ≡ packed (listed xs) → record { outcome = Kept; chosen = c } ≡ answered s xs
+pub answer-kept : (s : List ℕ) (xs : List (List ℕ)) {b : Bool} {c : Chosen} → b ≡ broken s → b ≡ false → c ≡ packed (listed xs) → record { outcome = Accepted; chosen = c } ≡ answered s xs
 unfolding answered
 answer-kept s xs e t q = rw (sym e ∙ t, q)

@@ -20,7 +20,7 @@ use Rattle.wire.specs.Lists.{entries, entry, listed}
 use Rattle.wire.proofs.Entries.{AddressAt, entries-address}
 use Rattle.wire.proofs.Listed.{All, listed-snoc, read-back}
 use Rattle.candidates.specs.Entries.{ofParsed}
-use Rattle.candidates.specs.Selection.{counted, roomFor, packed, longest, capacity}
+use Rattle.candidates.specs.Selection.{counted, roomFor, packed, most, longest, capacity}
 use Rattle.candidates.specs.OnePass.{suits, wantedFrom, keptFrom}
 use Rattle.candidates.specs.declared.Source.{Source}
 use Rattle.candidates.specs.declared.Limits.{Limits}
@@ -99,7 +99,7 @@ unfolding listed
 keep-none l list source e =
     record { got = []; inside = omega arith; bytes-are = ap (λ (c : Chosen). c .bytes) e; len-is = refl; few = omega arith; each = tt; rest = refl }
 
-module _ {l : Limits} (small : (longest + 2) * l .total ≤ capacity) {list : List ℕ} {source : Source} {bytes : List ℕ} {len at : ℕ} (h : Keeping l list source bytes len at) where
+module _ {l : Limits} (small : l .total ≤ most) {list : List ℕ} {source : Source} {bytes : List ℕ} {len at : ℕ} (h : Keeping l list source bytes len at) where
   pub keep-len : len ≤ (longest + 2) * length (h .got)
   keep-len = omega (arith, listed-long (h .got) (h .each), h .len-is)
 

@@ -43,7 +43,7 @@ peer-from l private got (a ∷ xs) =
     by-test true h = h (keep l got a)
     by-test false h = h got
 
-pub peer-is : (l : Limits) (private : Bool) (xs : List (List ℕ)) → foldl (keptFrom l (Peer private)) [] xs ≡ selected l private xs
+pub peer-is : (l : Limits) (private : Bool) (xs : List (List ℕ)) → foldl (keptFrom l (Peer private)) [] xs ≡ selected (record { limits = l; private = private }) xs
 unfolding selected bounded
 peer-is l private xs = peer-from l private [] xs
 

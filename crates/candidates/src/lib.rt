@@ -3,39 +3,39 @@
 use address::Ip;
 use address::Parsed;
 use refusal::Refusal;
+use vocabulary::Outcome;
 use wire::Entry;
 ghost use mathlib.Core.Path.{_≡_};
-ghost use mathlib.Core.Bool.{Bool};
 ghost use mathlib.Core.List.{List, [], foldl};
-ghost use Prim.Native.Nat.{ℕ, _+_, _*_, _<_, _≤_, _^_};
+ghost use Prim.Native.Nat.{ℕ, _<_, _≤_, _^_};
 ghost use Rattle.prelude.specs.Choice.{no};
 ghost use Rattle.wire.specs.Lists.{entries, listed};
 ghost use Rattle.candidates.specs.Entries.{bit, count, sameFamily, sameIp, sameBytes, contains};
-ghost use Rattle.candidates.specs.Selection.{usual, longest, capacity, counted, roomFor, bounded, punchable, selected, own, packed, answered};
+ghost use Rattle.candidates.specs.Selection.{usual, usually, most, held, heldTerms, counted, roomFor, bounded, punchable, selected, own, packed, answered};
 ghost use Rattle.candidates.specs.OnePass.{tallied, suits, wantedFrom, keptFrom};
-ghost use Rattle.candidates.specs.Laws.{AllPass, KeepsLimits, DropsOnlyAtLimits, Short, IsListOf};
+ghost use Rattle.candidates.specs.Laws.{AllPass, KeepsLimits, DropsOnlyAtLimits, Short, IsListOf, UsualNumbers};
+ghost use Rattle.candidates.specs.declared.Limits.{Limits};
+ghost use Rattle.candidates.specs.declared.Terms.{Terms};
 
-// The most candidates that are kept, in all, of a family and of an IP; and the lowest port.
+// The usual limits: the most candidates that are kept, in all, of a family and of an IP; and the lowest port.
 pub const MAX_PUNCH_CANDIDATES: usize = 8;
 
-const MAX_PUNCH_CANDIDATES_PER_FAMILY: usize = MAX_PUNCH_CANDIDATES / 2;
+pub const MAX_PUNCH_CANDIDATES_PER_FAMILY: usize = MAX_PUNCH_CANDIDATES / 2;
 
 const MAX_PUNCH_CANDIDATES_PER_IP: usize = 2;
 
 const LOWEST_PORT: u16 = 1024;
 
-// The bytes of as many of the longest addresses, each behind its length.
-pub const CAPACITY: usize = 200;
+// An address stands in a list behind its length.
+const LENGTH_SIZE: usize = 2;
+
+// Room for a list of as many of the longest addresses.
+pub const CAPACITY: usize = MAX_PUNCH_CANDIDATES * (LENGTH_SIZE + address::LONGEST_V6);
 
 // The addresses kept, as an address list from the first byte on.
 pub struct Chosen {
     pub bytes: [u8; CAPACITY],
     pub len: usize,
-}
-
-pub enum Outcome {
-    Kept,
-    Refused(Refusal),
 }
 
 // A refused list has nothing chosen.
@@ -49,6 +49,12 @@ pub struct Limits {
     pub family: usize,
     pub ip: usize,
     pub port: u16,
+}
+
+// What the peer's candidates are chosen by: the limits, and whether a private address may be a target.
+pub struct Terms {
+    pub limits: Limits,
+    pub private: bool,
 }
 
 // How many addresses there are, how many of a family, and how many of an IP.
@@ -178,7 +184,7 @@ fn holds(list: &[u8], a: &[u8]) -> bool
 }
 
 impl Limits {
-    fn usual() -> Self
+    pub fn usual() -> Self
         ensures { λ r. ⌜ r ≡ usual ⌝ }
     {
         Limits {
@@ -186,6 +192,19 @@ impl Limits {
             family: MAX_PUNCH_CANDIDATES_PER_FAMILY,
             ip: MAX_PUNCH_CANDIDATES_PER_IP,
             port: LOWEST_PORT,
+        }
+    }
+
+    // A total over the most that a list has room for counts as the most.
+    fn held(self) -> Self
+        ensures { λ r. ⌜ r ≡ held self ⌝ }
+    {
+        if self.total <= MAX_PUNCH_CANDIDATES {
+            return self;
+        }
+        Limits {
+            total: MAX_PUNCH_CANDIDATES,
+            ..self
         }
     }
 
@@ -203,6 +222,16 @@ impl Limits {
             return false;
         }
         n.ip < self.ip
+    }
+}
+
+impl Terms {
+    // The usual limits.
+    pub fn usual(private: bool) -> Self
+        ensures { λ r. ⌜ r ≡ usually private ⌝ }
+    {
+        let limits = Limits::usual();
+        Terms { limits, private }
     }
 }
 
@@ -246,7 +275,7 @@ impl Chosen {
 
 // The entries of a list that are kept, in one pass.
 fn choose(l: Limits, list: &[u8], source: Source) -> Chosen
-    requires { ⌜ (longest + 2) * l .total ≤ capacity ⌝ }
+    requires { ⌜ l .total ≤ most ⌝ }
     ensures { λ r. ⌜ r ≡ packed (listed (foldl (keptFrom l source) [] (entries (now (list .entry))))) ⌝ }
 {
     let none = Chosen::empty();
@@ -269,8 +298,8 @@ fn choose(l: Limits, list: &[u8], source: Source) -> Chosen
     }
 }
 
-fn chosen_from(list: &[u8], source: Source) -> Selection
-    ensures { λ r. ⌜ r ≡ answered (now (list .entry)) (foldl (keptFrom usual source) [] (entries (now (list .entry)))) ⌝ }
+fn chosen_from(l: Limits, list: &[u8], source: Source) -> Selection
+    ensures { λ r. ⌜ r ≡ answered (now (list .entry)) (foldl (keptFrom (held l) source) [] (entries (now (list .entry)))) ⌝ }
 {
     if wire::is_broken(list) {
         let chosen = Chosen::empty();
@@ -279,62 +308,71 @@ fn chosen_from(list: &[u8], source: Source) -> Selection
             chosen,
         };
     }
-    let chosen = choose(Limits::usual(), list, source);
+    let chosen = choose(l.held(), list, source);
     Selection {
-        outcome: Outcome::Kept,
+        outcome: Outcome::Accepted,
         chosen,
     }
 }
 
-// The peer's addresses that may be targets, bounded.
-pub fn select_punch_candidates(list: &[u8], private: bool) -> Selection
-    ensures { λ r. ⌜ r ≡ answered (now (list .entry)) (selected usual private (entries (now (list .entry)))) ⌝ }
+// The peer's addresses that may be targets, bounded. Limits are any: a total over the most counts as the most, here and below.
+pub fn select_punch_candidates(list: &[u8], terms: Terms) -> Selection
+    ensures { λ r. ⌜ r ≡ answered (now (list .entry)) (selected (heldTerms terms) (entries (now (list .entry)))) ⌝ }
 {
-    chosen_from(list, Source::Peer { private })
+    let limits = terms.limits;
+    let private = terms.private;
+    chosen_from(limits, list, Source::Peer { private })
 }
 
 // One's own addresses, each form once, bounded.
-pub fn own_punch_candidates(list: &[u8]) -> Selection
-    ensures { λ r. ⌜ r ≡ answered (now (list .entry)) (own usual (entries (now (list .entry)))) ⌝ }
+pub fn own_punch_candidates(list: &[u8], limits: Limits) -> Selection
+    ensures { λ r. ⌜ r ≡ answered (now (list .entry)) (own (held limits) (entries (now (list .entry)))) ⌝ }
 {
-    chosen_from(list, Source::Own)
+    chosen_from(limits, list, Source::Own)
 }
 
 // The first addresses that the limits allow, whatever their ranges.
-pub fn bound_punch_candidates(list: &[u8]) -> Selection
-    ensures { λ r. ⌜ r ≡ answered (now (list .entry)) (bounded usual (entries (now (list .entry)))) ⌝ }
+pub fn bound_punch_candidates(list: &[u8], limits: Limits) -> Selection
+    ensures { λ r. ⌜ r ≡ answered (now (list .entry)) (bounded (held limits) (entries (now (list .entry)))) ⌝ }
 {
-    chosen_from(list, Source::Any)
+    chosen_from(limits, list, Source::Any)
 }
+
+// ---- Theorems, for any limits
 
 // The peer's candidates keep to the limits, and each may be a target.
 pub fn selection_keeps_limits()
-    ensures { λ _. ⌜ ((private : Bool) (xs : List (List ℕ)) → KeepsLimits xs (selected usual private xs) × AllPass (punchable private) (selected usual private xs)) ⌝ }
+    ensures { λ _. ⌜ ((t : Terms) (xs : List (List ℕ)) → KeepsLimits (t .limits) xs (selected t xs) × AllPass (punchable (t .private)) (selected t xs)) ⌝ }
 {}
 
 // One's own candidates keep to the limits, and none is there twice.
 pub fn own_keeps_limits()
-    ensures { λ _. ⌜ ((xs : List (List ℕ)) → KeepsLimits xs (own usual xs) × ((a : List ℕ) → count (sameBytes a) (own usual xs) ≤ 1)) ⌝ }
+    ensures { λ _. ⌜ ((l : Limits) (xs : List (List ℕ)) → KeepsLimits l xs (own l xs) × ((a : List ℕ) → count (sameBytes a) (own l xs) ≤ 1)) ⌝ }
 {}
 
 // A target is dropped only where a limit was met before it.
 pub fn selection_is_complete()
-    ensures { λ _. ⌜ ((private : Bool) → DropsOnlyAtLimits (selected usual private) (λ before a. punchable private a)) ⌝ }
+    ensures { λ _. ⌜ ((t : Terms) → DropsOnlyAtLimits (t .limits) (selected t) (λ before a. punchable (t .private) a)) ⌝ }
 {}
 
 // A new form of one's own is dropped only where a limit was met before it.
 pub fn own_is_complete()
-    ensures { λ _. ⌜ DropsOnlyAtLimits (own usual) (λ before a. no (contains a before)) ⌝ }
+    ensures { λ _. ⌜ ((l : Limits) → DropsOnlyAtLimits l (own l) (λ before a. no (contains a before))) ⌝ }
 {}
 
-// Candidates have 11 or 23 bytes, at most four of each, and make a list of at most 152 bytes.
+// Candidates have the size of their family's addresses, keep to its limit, and make a list that is as short as these allow.
 pub fn candidates_are_short()
-    ensures selected { λ _. ⌜ ((private : Bool) (xs : List (List ℕ)) → Short (selected usual private xs)) ⌝ }
-    ensures own { λ _. ⌜ ((xs : List (List ℕ)) → Short (own usual xs)) ⌝ }
+    ensures selected { λ _. ⌜ ((t : Terms) (xs : List (List ℕ)) → Short (t .limits) (selected t xs)) ⌝ }
+    ensures own { λ _. ⌜ ((l : Limits) (xs : List (List ℕ)) → Short l (own l xs)) ⌝ }
 {}
 
 // What is chosen is a list that is not broken, of the addresses kept.
 pub fn chosen_is_a_list()
-    ensures selected { λ _. ⌜ ((private : Bool) (xs : List (List ℕ)) → IsListOf (selected usual private xs) (packed (listed (selected usual private xs)))) ⌝ }
-    ensures own { λ _. ⌜ ((xs : List (List ℕ)) → IsListOf (own usual xs) (packed (listed (own usual xs)))) ⌝ }
+    ensures selected { λ _. ⌜ ((t : Terms) (xs : List (List ℕ)) → IsListOf (selected t xs) (packed (listed (selected t xs)))) ⌝ }
+    ensures own { λ _. ⌜ ((l : Limits) (xs : List (List ℕ)) → IsListOf (own l xs) (packed (listed (own l xs)))) ⌝ }
+{}
+
+// The usual limits are 8 in all, 4 of a family, 2 of an IP and ports from 1024, and a list under them has at most 152 bytes.
+pub fn usual_numbers()
+    ensures { λ _. ⌜ UsualNumbers ⌝ }
 {}

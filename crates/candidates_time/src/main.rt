@@ -1,4 +1,5 @@
 // Twenty thousand choices from the list on standard input, for a clock outside.
+use candidates::Terms;
 use libc::STDOUT_FILENO;
 ghost use mathlib.Core.Path.{_≡_};
 ghost use Prim.Native.Nat.{_≤_};
@@ -12,7 +13,8 @@ fn choose_often(list: &[u8], times: usize) -> usize
     let mut total: usize = 0;
     let mut k: usize = 0;
     while k < times {
-        let s = candidates::select_punch_candidates(list, k % 2 == 1);
+        let terms = Terms::usual(k % 2 == 1);
+        let s = candidates::select_punch_candidates(list, terms);
         let chosen = s.chosen;
         total += chosen.len;
         k += 1;

@@ -1,14 +1,21 @@
--- The circuit in another phase (RULES.md, section 11.1).
+-- What a circuit chooses by, and the circuit in another phase (RULES.md, sections 7 and 11.1).
 use Prim.Native.Nat.{ℕ}
 use mathlib.Core.Bool.{Bool, true, false}
 use Rattle.ids.specs.declared.ConnectionId.{ConnectionId}
 use Rattle.ids.specs.declared.StreamId.{StreamId}
 use Rattle.budget.specs.declared.UpgradeBudget.{UpgradeBudget}
 use Rattle.schedule.specs.declared.BlastSchedule.{BlastSchedule}
+use Rattle.vocabulary.specs.declared.Settings.{Settings}
+use Rattle.candidates.specs.Selection.{usually}
+use Rattle.candidates.specs.declared.Terms.{Terms}
 use Rattle.circuit.specs.declared.state.Core.{Core}
 use Rattle.circuit.specs.declared.state.Phase.{Phase}
 use Rattle.circuit.specs.declared.state.Phase.the-variants.{Handshaking, Exchange, Punching, Done}
 use Rattle.circuit.specs.declared.state.ConnectWrite.the-variants.{Unsent}
+
+-- the usual limits, and private targets by the settings
+abbrev pub termsOf : Settings → Terms
+termsOf s = usually (s .private)
 
 -- with another phase, budget and number of target bytes
 abbrev pub inState : Core → Phase → UpgradeBudget → ℕ → Core

@@ -1,12 +1,13 @@
 // What a circuit keeps, but for its bytes: numbers and enums, handed on by value.
 use budget::UpgradeBudget;
+use candidates::Terms;
 use ids::ConnectionId;
 use ids::PeerId;
 use ids::StreamId;
 use schedule::BlastSchedule;
 use vocabulary::Settings;
 ghost use mathlib.Core.Path.{_≡_};
-ghost use Rattle.circuit.specs.State.{inPhase, doneOf, exchangingOf, punchingOf, isDone};
+ghost use Rattle.circuit.specs.State.{termsOf, inPhase, doneOf, exchangingOf, punchingOf, isDone};
 
 // How far the round's CONNECT got.
 pub enum ConnectWrite {
@@ -48,6 +49,13 @@ pub struct Core {
     pub budget: UpgradeBudget,
     pub connect: usize,
     pub targets: usize,
+}
+
+// What the circuit chooses candidates by.
+pub fn terms(settings: Settings) -> Terms
+    ensures { λ r. ⌜ r ≡ termsOf settings ⌝ }
+{
+    Terms::usual(settings.private)
 }
 
 pub fn with_phase(c: Core, phase: Phase) -> Core

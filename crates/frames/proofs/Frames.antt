@@ -8,7 +8,7 @@ use native.Mathlib.Omega.{arith}
 use borrow.Author.Tests.{le-leb, lt-leb, ltb-true, ltb-false}
 use lib.Dec.{ltb, leb}
 use lib.ListN.{length, drop, replicate, length-append, length-replicate}
-use Rattle.prelude.specs.Choice.{pick, both, no}
+use Rattle.prelude.specs.Choice.{pick}
 use Rattle.refusal.specs.declared.Refusal.{Refusal}
 use Rattle.refusal.specs.declared.Refusal.the-variants.{BrokenList, MessageTooLong, OutputTooShort}
 use Rattle.wire.specs.Varint.{encoded}
@@ -22,7 +22,9 @@ use Rattle.message.specs.declared.Kind.the-variants.{Connect}
 use Rattle.message.specs.declared.Encoded.{Encoded}
 use Rattle.message.proofs.FieldList.{field-long, fields-more}
 use Rattle.message.proofs.Answers.{message-long}
-use Rattle.frames.specs.Sent.{frameCapacity, packed, connectFrame, longer}
+use Rattle.address.specs.Multiaddr.{longest4, longest6}
+use Rattle.candidates.specs.Selection.{usual, most}
+use Rattle.frames.specs.Sent.{frameCapacity, fieldSize, packed, connectFrame, longer}
 use Rattle.frames.specs.declared.Framed.{Framed}
 use Rattle.message.specs.declared.Encoded.the-variants as e
 
@@ -55,7 +57,7 @@ module _ (s : List ℕ) where
       go : (p q : Bool) → ltb maxMessageSize (length m) ≡ q → (r : Bool) → ltb frameCapacity (length f) ≡ r
           → made (pick p (e.Refused BrokenList) (pick q (e.Refused MessageTooLong) (pick r (e.Refused OutputTooShort) (e.Message (length f)))))
           (pick p (replicate frameCapacity 0) (pick q (replicate frameCapacity 0) (pick r (replicate frameCapacity 0) (over f (replicate frameCapacity 0)))))
-          ≡ pick (both (no p) (leb (length f) frameCapacity)) (packed f) (packed [])
+          ≡ pick p (packed []) (pick (leb (length f) frameCapacity) (packed f) (packed []))
       go true q i r j = refl
       go false true i r j =
           let l = ltb-true maxMessageSize (length m) i in
@@ -79,27 +81,27 @@ module _ (s : List ℕ) where
 
 -- ---- how long CONNECT is
 
-short-field : (a : List ℕ) → length a ≤ 23 → length (addressField a) ≡ 2 + length a
+short-field : (a : List ℕ) → length a ≤ longest6 → length (addressField a) ≡ fieldSize (length a)
 short-field a h =
     let o : length (encoded (length a)) ≡ 1 = ap length (last-one 9 (length a) (omega arith)) in
     omega (arith, field-long a)
 
-fields-long : (xs : List (List ℕ)) → longer 23 xs ≡ 0 → length (addressFields xs) ≤ 13 * length xs + 12 * longer 11 xs
+fields-long : (xs : List (List ℕ)) → longer longest6 xs ≡ 0 → length (addressFields xs) ≤ fieldSize longest4 * length xs + (longest6 - longest4) * longer longest4 xs
 unfolding addressFields longer
 fields-long [] h = omega arith
-fields-long (a ∷ xs) h = go (ltb 23 (length a)) refl (ltb 11 (length a)) refl h (fields-long xs)
+fields-long (a ∷ xs) h = go (ltb longest6 (length a)) refl (ltb longest4 (length a)) refl h (fields-long xs)
   where
-    go : (p : Bool) → ltb 23 (length a) ≡ p → (q : Bool) → ltb 11 (length a) ≡ q → pick p 1 0 + longer 23 xs ≡ 0
-        → (longer 23 xs ≡ 0 → length (addressFields xs) ≤ 13 * length xs + 12 * longer 11 xs)
-        → length (addressFields (a ∷ xs)) ≤ 13 * suc (length xs) + 12 * (pick q 1 0 + longer 11 xs)
+    go : (p : Bool) → ltb longest6 (length a) ≡ p → (q : Bool) → ltb longest4 (length a) ≡ q → pick p 1 0 + longer longest6 xs ≡ 0
+        → (longer longest6 xs ≡ 0 → length (addressFields xs) ≤ fieldSize longest4 * length xs + (longest6 - longest4) * longer longest4 xs)
+        → length (addressFields (a ∷ xs)) ≤ fieldSize longest4 * suc (length xs) + (longest6 - longest4) * (pick q 1 0 + longer longest4 xs)
     go true i q j h r = absurd (omega arith)
     go false i true j h r =
-        let l = ltb-false 23 (length a) i in
+        let l = ltb-false longest6 (length a) i in
         let t = r (omega arith) in
         omega (arith, fields-more a xs, short-field a l)
     go false i false j h r =
-        let l = ltb-false 23 (length a) i in
-        let k = ltb-false 11 (length a) j in
+        let l = ltb-false longest6 (length a) i in
+        let k = ltb-false longest4 (length a) j in
         let t = r (omega arith) in
         omega (arith, fields-more a xs, short-field a l)
 
@@ -114,7 +116,7 @@ small-head v h = go (ltb v 128) refl
         let q = ap length (last-one 8 (v / 128) (omega arith)) in
         omega arith
 
-connect-long : (xs : List (List ℕ)) → length xs ≤ 8 → longer 11 xs ≤ 4 → longer 23 xs ≡ 0 → length (frameBytes Connect xs) ≤ frameCapacity
+connect-long : (xs : List (List ℕ)) → length xs ≤ most → longer longest4 xs ≤ usual .family → longer longest6 xs ≡ 0 → length (frameBytes Connect xs) ≤ frameCapacity
 connect-long xs h i j =
     let t : length (encoded 100) ≡ 1 = ap length (last-one 9 100 (omega arith)) in
     let b = fields-long xs j in
@@ -122,17 +124,17 @@ connect-long xs h i j =
     let s = small-head (length (messageBytes Connect xs)) (omega arith) in
     omega (arith, length-append (encoded (length (messageBytes Connect xs))) (messageBytes Connect xs))
 
-short-all : (xs : List (List ℕ)) → longer 23 xs ≡ 0 → All (λ a. length a < 65536) xs
+short-all : (xs : List (List ℕ)) → longer longest6 xs ≡ 0 → All (λ a. length a < 65536) xs
 unfolding longer
 short-all [] h = tt
-short-all (a ∷ xs) h = go (ltb 23 (length a)) refl h (short-all xs)
+short-all (a ∷ xs) h = go (ltb longest6 (length a)) refl h (short-all xs)
   where
-    go : (p : Bool) → ltb 23 (length a) ≡ p → pick p 1 0 + longer 23 xs ≡ 0 → (longer 23 xs ≡ 0 → All (λ a. length a < 65536) xs) → All (λ a. length a < 65536) (a ∷ xs)
+    go : (p : Bool) → ltb longest6 (length a) ≡ p → pick p 1 0 + longer longest6 xs ≡ 0 → (longer longest6 xs ≡ 0 → All (λ a. length a < 65536) xs) → All (λ a. length a < 65536) (a ∷ xs)
     go true i h r = absurd (omega arith)
-    go false i h r = (omega (arith, ltb-false 23 (length a) i), r (omega arith))
+    go false i h r = (omega (arith, ltb-false longest6 (length a) i), r (omega arith))
 
 -- the frame of a list of own candidates
-pub connect-listed : (xs : List (List ℕ)) → length xs ≤ 8 → longer 11 xs ≤ 4 → longer 23 xs ≡ 0
+pub connect-listed : (xs : List (List ℕ)) → length xs ≤ most → longer longest4 xs ≤ usual .family → longer longest6 xs ≡ 0
     → (length (frameBytes Connect xs) ≤ frameCapacity) × (connectFrame (listed xs) ≡ packed (frameBytes Connect xs))
 unfolding connectFrame
 connect-listed xs h i j =

@@ -1,30 +1,40 @@
 -- The frames that go out (RULES.md, sections 3 and 4).
-use Prim.Native.Nat.{ℕ, _+_, _-_}
+use Prim.Native.Nat.{ℕ, _+_, _-_, _*_}
 use mathlib.Core.List.{List, [], _∷_, _++_}
 use lib.ListN.{length, take, replicate}
 use lib.Dec.{leb, ltb}
-use Rattle.prelude.specs.Choice.{pick, both, no}
+use Rattle.prelude.specs.Choice.{pick}
 use Rattle.wire.specs.Lists.{entries, broken}
 use Rattle.message.specs.Encoding.{frameBytes}
 use Rattle.message.specs.declared.Kind.the-variants.{Connect, Sync}
 use Rattle.candidates.specs.declared.Chosen.{Chosen}
-use Rattle.candidates.specs.Selection.{usual, own}
+use Rattle.address.specs.Multiaddr.{longest4, longest6}
+use Rattle.candidates.specs.declared.Limits.{Limits}
+use Rattle.candidates.specs.Selection.{usual, held, own}
 use Rattle.frames.specs.declared.Framed.{Framed}
 
--- the most bytes of a frame that goes out
+-- two bytes of length and the type's field; and a field with its tag and a length of one byte before the address
+abbrev pub headSize : ℕ
+headSize = 4
+
+abbrev pub fieldSize : ℕ → ℕ
+fieldSize n = 2 + n
+
+-- the most bytes of a frame that goes out: CONNECT with the usual limit of each family's longest addresses
 abbrev pub frameCapacity : ℕ
-frameCapacity = 156
+frameCapacity = headSize + (usual .family * fieldSize longest4 + usual .family * fieldSize longest6)
 
 -- a frame's bytes from the first on, zero bytes behind them, and their number
 abbrev pub packed : List ℕ → Framed
 packed s = record { bytes = s ++ replicate (frameCapacity - length s) 0; len = length s }
 
--- the framed CONNECT with the addresses of a list; nothing for a broken list, or for one whose frame is too long
+-- a frame's bytes where it has room, else nothing
+abbrev pub fitted : List ℕ → Framed
+fitted f = pick (leb (length f) frameCapacity) (packed f) (packed [])
+
+-- the framed CONNECT with the addresses of a list; nothing for a broken list
 unfoldable pub connectFrame : List ℕ → Framed
-connectFrame s =
-    pick (both (no (broken s)) (leb (length (frameBytes Connect (entries s))) frameCapacity))
-    (packed (frameBytes Connect (entries s)))
-    (packed [])
+connectFrame s = pick (broken s) (packed []) (fitted (frameBytes Connect (entries s)))
 
 -- the framed SYNC, which has no address
 unfoldable pub syncFrame : Framed
@@ -35,8 +45,8 @@ unfoldable pub chosenConnect : Chosen → Framed
 chosenConnect c = connectFrame (take (c .len) (c .bytes))
 
 -- the framed CONNECT with the candidates of an own list (section 7); nothing for a broken list
-unfoldable pub ownConnect : List ℕ → Framed
-ownConnect list = pick (broken list) (packed []) (packed (frameBytes Connect (own usual (entries list))))
+unfoldable pub ownConnect : Limits → List ℕ → Framed
+ownConnect l list = pick (broken list) (packed []) (fitted (frameBytes Connect (own (held l) (entries list))))
 
 -- how many addresses have more than n bytes
 unfoldable pub longer : ℕ → List (List ℕ) → ℕ

@@ -1,22 +1,36 @@
 // Frames (lib.rs): CONNECT and SYNC as they go out, the CONNECT of an own address list, and a frame that is gathered in a lent buffer.
 use candidates::Chosen;
+use candidates::Limits;
 use message::Encoded;
 use message::Kind;
+use vocabulary::Outcome;
 use wire::Frame;
 ghost use mathlib.Core.Path.{_≡_};
+ghost use mathlib.Core.Bool.{false};
 ghost use mathlib.Core.List.{List, []};
 ghost use Prim.Native.Nat.{ℕ, _+_, _<_, _≤_};
 ghost use lib.ListN.{length, replicate};
 ghost use Rattle.message.specs.Encoding.{frameBytes};
 ghost use Rattle.wire.specs.Frame.{maxFrameSize};
-ghost use Rattle.wire.specs.Lists.{listed};
+ghost use Rattle.wire.specs.Lists.{entries, broken, listed};
+ghost use Rattle.address.specs.Multiaddr.{longest4, longest6};
+ghost use Rattle.candidates.specs.Selection.{usual, most, held, own};
+ghost use Rattle.candidates.specs.declared.Limits.{Limits};
 ghost use Rattle.frames.specs.Sent.{frameCapacity, packed, connectFrame, syncFrame, longer, chosenConnect, ownConnect};
 ghost use Rattle.frames.specs.Gathering.{gathered, gatheredInto, frameByte};
 
 // ---- Frames that go out
 
-// The most bytes of a frame that goes out: CONNECT with eight own addresses, four of them of 23 bytes and four of 11.
-pub const FRAME_CAPACITY: usize = 156;
+// The frame's length, of two bytes at most, and the type's field.
+const HEAD_SIZE: usize = 4;
+
+// What stands before an address in its field: the tag and a length of one byte.
+const FIELD_HEAD_SIZE: usize = 2;
+
+// The most bytes of a frame that goes out: CONNECT with as many own addresses of each family as it has at most, all the longest.
+pub const FRAME_CAPACITY: usize = HEAD_SIZE
+    + candidates::MAX_PUNCH_CANDIDATES_PER_FAMILY * (FIELD_HEAD_SIZE + address::LONGEST_V4)
+    + candidates::MAX_PUNCH_CANDIDATES_PER_FAMILY * (FIELD_HEAD_SIZE + address::LONGEST_V6);
 
 pub type FrameBytes = [u8; FRAME_CAPACITY];
 
@@ -89,17 +103,18 @@ fn connect_of(chosen: Chosen) -> Framed
     connect_frame(&bytes[..len])
 }
 
-// The framed CONNECT with the candidates of an own list; empty for a broken list.
-pub fn own_connect(list: &[u8]) -> Framed
-    ensures { λ r. ⌜ r ≡ ownConnect (now (list .entry)) ⌝ }
+// The framed CONNECT with the candidates of an own list; empty for a broken list, or where limits above the usual ones leave it no
+// room.
+pub fn own_connect(list: &[u8], limits: Limits) -> Framed
+    ensures { λ r. ⌜ r ≡ ownConnect limits (now (list .entry)) ⌝ }
 {
-    let selection = candidates::own_punch_candidates(list);
+    let selection = candidates::own_punch_candidates(list, limits);
     let outcome = selection.outcome;
     match outcome {
-        candidates::Outcome::Refused(_) => {
+        Outcome::Refused(_) => {
             return Framed::empty();
         }
-        candidates::Outcome::Kept => {
+        Outcome::Accepted => {
             let chosen = selection.chosen;
             return connect_of(chosen);
         }
@@ -187,10 +202,17 @@ pub fn gather(input: &[u8], buffer: &mut [u8], count: usize) -> Gathered
 
 // ---- Theorems
 
-// The framed CONNECT fits, and is never empty, for at most eight addresses, at most four of them with more than 11 bytes and none
-// with more than 23.
+// The framed CONNECT fits, and is never empty, for as many addresses as a list has room for, of which no more than a family's usual
+// limit are longer than the IPv4 ones and none is longer than the IPv6 ones.
 pub fn connect_frame_fits()
-    ensures { λ r. ⌜ ((xs : List (List ℕ)) → length xs ≤ 8 → longer 11 xs ≤ 4 → longer 23 xs ≡ 0 → (length (frameBytes Kind.Connect xs) ≤ frameCapacity) × (connectFrame (listed xs) ≡ packed (frameBytes Kind.Connect xs))) ⌝ }
+    ensures { λ r. ⌜ ((xs : List (List ℕ)) → length xs ≤ most → longer longest4 xs ≤ usual .family → longer longest6 xs ≡ 0 → (length (frameBytes Kind.Connect xs) ≤ frameCapacity) × (connectFrame (listed xs) ≡ packed (frameBytes Kind.Connect xs))) ⌝ }
+{}
+
+// An own list that is not broken has its CONNECT, whole, under all limits that allow no more of a family than the usual ones; it has
+// at most 156 bytes.
+pub fn own_connect_fits()
+    ensures whole { λ r. ⌜ ((l : Limits) (list : List ℕ) → l .family ≤ usual .family → broken list ≡ false → ownConnect l list ≡ packed (frameBytes Kind.Connect (own (held l) (entries list)))) ⌝ }
+    ensures most { λ r. ⌜ frameCapacity ≡ 156 ⌝ }
 {}
 
 // A count that gathering hands on stays below the longest frame: a buffer of that length has room for every next byte.

@@ -145,6 +145,6 @@ ledger-by-the-rule source relay circuit s at calls =
     k : Begun
     k = record { source = source; relay = relay; circuit = circuit; settings = s }
 
-pub own-message : (list : List ℕ) → OwnList list
+pub own-message : (s : Settings) (list : List ℕ) → OwnList s list
 unfolding ownConnect
-own-message list = record { none = λ e. rw e; message = own-bytes list }
+own-message s list = record { none = λ e. rw e; message = own-bytes s list }

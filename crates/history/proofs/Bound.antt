@@ -16,7 +16,7 @@ use Rattle.ids.specs.declared.ConnectionId.{ConnectionId}
 use Rattle.ids.specs.declared.StreamId.{StreamId}
 use Rattle.schedule.specs.Readings.{counted}
 use Rattle.schedule.proofs.Counted.{counted-le}
-use Rattle.candidates.specs.Selection.{usual, selected}
+use Rattle.candidates.specs.Selection.{selected}
 use Rattle.candidates.proofs.Promises.{selection-limits}
 use Rattle.vocabulary.specs.declared.Settings.{Settings}
 use Rattle.vocabulary.specs.declared.Host.{Host}
@@ -29,7 +29,7 @@ use Rattle.circuit.specs.declared.state.ConnectWrite.the-variants.{Unsent, Held
 use Rattle.lent.specs.Brought.{Brought, unfinished, failed, connect}
 use Rattle.history.specs.Heard.{heard}
 use Rattle.history.specs.Calls.{Call, up, input, tick, wrote, down, toEach, copies, refusals}
-use Rattle.history.specs.Book.{Window, Asking, Stage, handshaking, asking, within, over, Book, Who, fresh, current, windows, closed, isCircuit, begins, wanted, seen, tickIn, armed, upIn, isClosing, tripOf, opened, withCount, withConnect, replied, answeredBy, inputTo, inputIn, wroteTo, wroteIn, note, notes}
+use Rattle.history.specs.Book.{termsOf, Window, Asking, Stage, handshaking, asking, within, over, Book, Who, fresh, current, windows, closed, isCircuit, begins, wanted, seen, tickIn, armed, upIn, isClosing, tripOf, opened, withCount, withConnect, replied, answeredBy, inputTo, inputIn, wroteTo, wroteIn, note, notes}
 use Rattle.history.specs.Demand3.{ofWindow, due, longest, most, begun, windowsOf}
 
 -- ---- each window has at most eight addresses
@@ -50,8 +50,8 @@ short-right : (us vs : List Window) → Short (us ++ vs) → Short vs
 short-right [] vs p = p
 short-right (u ∷ us) vs p = short-right us vs (p .1)
 
-chosen-short : (private : Bool) (addresses : List (List ℕ)) → length (selected usual private addresses) ≤ 8
-chosen-short private addresses = selection-limits private addresses .0 .total
+chosen-short : (s : Settings) (addresses : List (List ℕ)) → length (selected (termsOf s) addresses) ≤ 8
+chosen-short s addresses = selection-limits (termsOf s) addresses .0 .total
 
 -- ---- a round for each window
 
@@ -180,8 +180,8 @@ module _ (s : Settings) (who : Who) (h : Host) (own : List ℕ) (deadline rounds
           most = f .most;
           room = f .room;
           short = short-append past
-              (opened s deadline (h .at) (tripOf (x .connect) (h .at)) (selected usual (s .private) addresses) ∷ [])
-              (short-left past [] (f .short)) (chosen-short (s .private) addresses, tt);
+              (opened s deadline (h .at) (tripOf (x .connect) (h .at)) (selected (termsOf s) addresses) ∷ [])
+              (short-left past [] (f .short)) (chosen-short s addresses, tt);
         }
 
     answered-fine : (buffer : List ℕ) (kind : StreamInput) (bytes : List ℕ) → Fine (answeredBy s who h own buffer kind bytes (at (asking x)) x)

@@ -14,7 +14,7 @@ use Rattle.ids.specs.declared.StreamId.{StreamId}
 use Rattle.refusal.specs.declared.Refusal.{Refusal}
 use Rattle.refusal.specs.declared.Refusal.the-variants.{ReplyBufferTooShort}
 use Rattle.candidates.specs.declared.Chosen.{Chosen}
-use Rattle.candidates.specs.Selection.{usual, selected}
+use Rattle.candidates.specs.Selection.{selected}
 use Rattle.ledger.specs.Ledger.{PathLedger, refusesPunches}
 use Rattle.vocabulary.specs.declared.Settings.{Settings}
 use Rattle.inbound.specs.declared.InboundCircuit.{InboundCircuit}
@@ -46,7 +46,7 @@ use Rattle.circuit.specs.State.{doneOf, isDone}
 use Rattle.history.specs.Heard.{heard}
 use Rattle.history.specs.Calls.{Call, up, tick, wrote, down, stepOf}
 use Rattle.history.specs.Calls as call
-use Rattle.history.specs.Book.{Asking, Stage, handshaking, asking, within, over, Book, Who, isCircuit, armed, isClosing, tripOf, fresh}
+use Rattle.history.specs.Book.{termsOf, Asking, Stage, handshaking, asking, within, over, Book, Who, isCircuit, armed, isClosing, tripOf, fresh}
 use Rattle.history.specs.Tells.{Says, burst, send, reset, opens, removed, sync, Told, nothing, opening, wants, isNone, blast, newly, tickTells, upTells, repliedTells, laterTells, timelyTells, inputTells, tells, tellsAll}
 use Rattle.history.specs.Answers.{said, saidBy, saidIs, toldOf, whoOf, DoneIsLast, AtMostThree, ThreeEffects}
 use Rattle.history.specs.Refuses.{refusal, turned, next}
@@ -204,7 +204,7 @@ module _ (s : Settings) (who : Who) (h : Host) (b : Book) where
   replied-few x (unfinished n) = omega arith
   replied-few x failed = wants-few who h b _ (omega arith)
   replied-few x (connect addresses) =
-      let list : List (List ℕ) = selected usual (s .private) addresses in
+      let list : List (List ℕ) = selected (termsOf s) addresses in
       let times : ℕ = pick (eqb (tripOf (x .connect) (h .at)) 0) 1 0 in
       omega (arith, blast-one s times list, length-append (blast s times list) (send (x .conn) (x .stream) sync ∷ reset (x .conn) (x .stream) ∷ []))
 

@@ -14,6 +14,8 @@ use Rattle.frames.specs.Sent.{ownConnect}
 use Rattle.ledger.specs.Ledger.{PathLedger, refusesPunches}
 use Rattle.vocabulary.specs.declared.Host.{Host}
 use Rattle.vocabulary.specs.declared.StreamInput.{StreamInput}
+use Rattle.vocabulary.specs.declared.Settings.{Settings}
+use Rattle.circuit.specs.State.{termsOf}
 use Rattle.circuit.specs.declared.decision.Decision.{Decision}
 use Rattle.circuit.specs.declared.decision.Fate.{Fate}
 use Rattle.circuit.specs.declared.decision.Fate.the-variants.{Kept, Removed, Opened}
@@ -35,8 +37,8 @@ abbrev pub madeIf : Bool → Framed → Chosen → (own : List ℕ) → Chosen �
 madeIf v m t own chosen d =
     record {
       circuit = record {
-        core = withConnect (d .core) (pick v (ownConnect own .len) (d .core .connect));
-        connect = pick v (ownConnect own .bytes) (m .bytes);
+        core = withConnect (d .core) (pick v (ownConnect (termsOf (d .core .settings) .limits) own .len) (d .core .connect));
+        connect = pick v (ownConnect (termsOf (d .core .settings) .limits) own .bytes) (m .bytes);
         targets = targetsAfter (t .bytes) chosen (d .window);
       };
       outcome = d .outcome;
@@ -52,18 +54,18 @@ madeIf v m t own chosen d =
 abbrev pub made : Framed → Chosen → (own : List ℕ) → Chosen → Decision → Answer
 made m t own chosen d = madeIf (opens (d .fourth)) m t own chosen d
 
-framed-made : (m : Framed) (t : Chosen) (own : List ℕ) (chosen : Chosen) (d : Decision)
-    → answerOf (framedBy own d) (connectAfter own (m .bytes) (framedBy own d .fourth)) (targetsAfter (t .bytes) chosen (framedBy own d .window))
-    (messageOf (m .bytes) (framedBy own d .message))
+framed-made : (s : Settings) (m : Framed) (t : Chosen) (own : List ℕ) (chosen : Chosen) (d : Decision)
+    → answerOf (framedBy (termsOf s) own d) (connectAfter (termsOf s) own (m .bytes) (framedBy (termsOf s) own d .fourth)) (targetsAfter (t .bytes) chosen (framedBy (termsOf s) own d .window))
+    (messageOf (m .bytes) (framedBy (termsOf s) own d .message))
     ≡ made m t own chosen d
 unfolding answerOf framedBy connectAfter
-framed-made m t own chosen d = go (opens (d .fourth)) refl
+framed-made s m t own chosen d = go (opens (d .fourth)) refl
   where
     framed : Bool → Decision
-    framed v = pick v (withCore d (withConnect (d .core) (ownConnect own .len))) d
+    framed v = pick v (withCore d (withConnect (d .core) (ownConnect (termsOf (d .core .settings) .limits) own .len))) d
 
     go : (v : Bool) → opens (d .fourth) ≡ v
-        → answerOf (framed v) (pick (opens (framed v .fourth)) (ownConnect own .bytes) (m .bytes))
+        → answerOf (framed v) (pick (opens (framed v .fourth)) (ownConnect (termsOf (d .core .settings) .limits) own .bytes) (m .bytes))
         (targetsAfter (t .bytes) chosen (framed v .window))
         (messageOf (m .bytes) (framed v .message))
         ≡ madeIf v m t own chosen d
@@ -82,15 +84,15 @@ module _ (c : InboundCircuit) (h : Host) (own : List ℕ) where
       → upAnswer c h own peer conn relayed ≡ made (framedIn c) (chosenIn c) own (chosenIn c) (upIn (c .core) h own peer conn relayed)
   unfolding upAnswer upOf
   up-made peer conn relayed =
-      rw (← framed-made (framedIn c) (chosenIn c) own (chosenIn c) (upIn (c .core) h own peer conn relayed), kept-targets (chosenIn c) _)
+      rw (← framed-made (c .core .settings) (framedIn c) (chosenIn c) own (chosenIn c) (upIn (c .core) h own peer conn relayed), kept-targets (chosenIn c) _)
 
   pub tick-made : tickAnswer c h own ≡ made (framedIn c) (chosenIn c) own (chosenIn c) (tickIn (c .core) h own)
   unfolding tickAnswer tickOf
-  tick-made = rw (← framed-made (framedIn c) (chosenIn c) own (chosenIn c) (tickIn (c .core) h own), kept-targets (chosenIn c) _)
+  tick-made = rw (← framed-made (c .core .settings) (framedIn c) (chosenIn c) own (chosenIn c) (tickIn (c .core) h own), kept-targets (chosenIn c) _)
 
   pub input-made : (l : PathLedger) (buffer : List ℕ) (stream : StreamId) (kind : StreamInput) (bytes : List ℕ) (pending : Bool)
       → inputAnswer c l h own buffer stream kind bytes pending
       ≡ made (framedIn c) (chosenIn c) own (peeked (c .core) buffer bytes .targets)
       (inputIn (c .core) (refusesPunches l (c .core .source)) h own buffer stream kind bytes pending)
   unfolding inputAnswer inputOf
-  input-made l buffer stream kind bytes pending = framed-made (framedIn c) (chosenIn c) own _ _
+  input-made l buffer stream kind bytes pending = framed-made (c .core .settings) (framedIn c) (chosenIn c) own _ _

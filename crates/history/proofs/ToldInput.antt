@@ -18,7 +18,7 @@ use Rattle.schedule.specs.Instants.{startOf, halfOf}
 use Rattle.schedule.specs.Schedule.{openedOf}
 use Rattle.schedule.proofs.Readings.{first-with-reply}
 use Rattle.candidates.specs.declared.Chosen.{Chosen}
-use Rattle.candidates.specs.Selection.{usual, selected}
+use Rattle.candidates.specs.Selection.{selected}
 use Rattle.message.specs.Encoding.{addressFields}
 use Rattle.wire.specs.Varint.{groups}
 use Rattle.frames.specs.declared.Framed.{Framed}
@@ -46,7 +46,7 @@ use Rattle.lent.specs.Brought.{Brought, unfinished, failed, connect, broughtBy}
 use Rattle.circuit.specs.Rounds.{failRound}
 use Rattle.circuit.specs.Ticks.{tickExchange}
 use Rattle.circuit.specs.Inputs.{closing, inExchange, writeOf, firstInput, openWindow, replied, laterInput, timelyInput, inTime, exchangeInput}
-use Rattle.circuit.specs.State.{inPhase, punchingOf}
+use Rattle.circuit.specs.State.{termsOf, inPhase, punchingOf}
 use Rattle.lent.specs.Replies.{targetsFrom, peekedOf}
 use Rattle.history.specs.Book.{Window, Asking, Stage, asking, Book, isClosing, tripOf, opened}
 use Rattle.history.specs.Tells.{Says, burst, send, reset, only, nothing, wants, isNone, blast, tickTells, sync, repliedTells, laterTells, timelyTells, inputTells}
@@ -148,7 +148,7 @@ module _ (k : Begun) (g : UpgradeBudget) (m : Framed) (t : Chosen) (l : PathLedg
   -- ---- what the bytes bring
 
   abbrev got : Brought → Peeked
-  got y = peekedOf (k .settings .private) y
+  got y = peekedOf (termsOf (k .settings)) y
 
   brought-follows : h .at < end → (y : Brought)
       → Follows (k .source) l
@@ -160,15 +160,15 @@ module _ (k : Begun) (g : UpgradeBudget) (m : Framed) (t : Chosen) (l : PathLedg
   brought-follows n (connect addresses) = go (refusesPunches l (k .source)) refl
     where
       targets : Chosen
-      targets = targetsFrom (k .settings .private) addresses
+      targets = targetsFrom (termsOf (k .settings)) addresses
 
       go : (v : Bool) → refusesPunches l (k .source) ≡ v
           → Follows (k .source) l (made m t own targets (pick v (refusedOf c LedgerFull) (openWindow c (h .at) running (targets .len))))
           (repliedTells (k .settings) (whose k) h b ask (connect addresses))
       go true f = refused-follows (k .source) l m t own targets c LedgerFull _
       go false f =
-          reply-follows n (selected usual (k .settings .private) addresses) targets
-          (list-same (k .settings .private) addresses) (bare-same (k .settings .private) addresses) f
+          reply-follows n (selected (termsOf (k .settings)) addresses) targets
+          (list-same (k .settings) addresses) (bare-same (k .settings) addresses) f
 
   module _ (buffer bytes : List ℕ) where
     abbrev peek : Peeked

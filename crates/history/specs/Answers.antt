@@ -13,7 +13,7 @@ use Rattle.time.specs.Time.{last}
 use Rattle.wire.specs.Lists.{entries, broken}
 use Rattle.message.specs.declared.Kind.the-variants.{Connect}
 use Rattle.message.specs.Encoding.{frameBytes}
-use Rattle.candidates.specs.Selection.{usual, own}
+use Rattle.candidates.specs.Selection.{own}
 use Rattle.frames.specs.declared.Framed.{Framed}
 use Rattle.ledger.specs.Ledger.{PathLedger, refusesPunches, endPunches, expectPunches}
 use Rattle.vocabulary.specs.declared.Settings.{Settings}
@@ -26,7 +26,7 @@ use Rattle.frames.specs.Sent.{ownConnect}
 use Rattle.inbound.specs.Circuits.{newAnswer, inputBuffer, ledgerBehind}
 use Rattle.history.specs.Calls.{Call, up, input, tick, wrote, down, answerTo, targetsOf, stepOf, refusals}
 use Rattle.history.specs.Numbers.{numberIn, answeredWith}
-use Rattle.history.specs.Book.{Book, Who, fresh}
+use Rattle.history.specs.Book.{Book, Who, termsOf, fresh}
 use Rattle.history.specs.Refuses.{refusal, turned, next, numbers, turnedAll}
 use Rattle.history.specs.Demand3.{begun}
 use Rattle.history.specs.Tells.{Says, path, burst, upgrade, close, send, reset, opens, Lot, stays, removed, until, Told, gathers, tellsAll, takesAll}
@@ -196,9 +196,9 @@ pub record StartByTheRule (source relay : PeerId) (circuit : ConnectionId) (s : 
   pub timely : at + s .handshake ≤ last → begun source relay circuit s at .core .phase ≡ Handshaking (at + s .handshake)
 
 -- the CONNECT of an own list: the candidates chosen from it, framed (sections 4, 5 and 7), and nothing for a broken list
-pub record OwnList (list : List ℕ) : Type 0 where
-  pub none : broken list ≡ true → bytesOf (ownConnect list) ≡ []
-  pub message : broken list ≡ false → bytesOf (ownConnect list) ≡ frameBytes Connect (own usual (entries list))
+pub record OwnList (s : Settings) (list : List ℕ) : Type 0 where
+  pub none : broken list ≡ true → bytesOf (ownConnect (termsOf s .limits) list) ≡ []
+  pub message : broken list ≡ false → bytesOf (ownConnect (termsOf s .limits) list) ≡ frameBytes Connect (own (termsOf s .limits) (entries list))
 
 -- ---- what follows
 

@@ -26,6 +26,7 @@ use Rattle.lent.specs.Brought.{Brought, unfinished, failed, connect}
 use Rattle.wire.specs.Lists.{entries}
 use Rattle.message.specs.Encoding.{frameBytes}
 use Rattle.message.specs.declared.Kind.the-variants.{Connect}
+use Rattle.candidates.specs.declared.Terms.{Terms}
 use Rattle.candidates.specs.Selection.{usual, selected, own}
 use Rattle.history.specs.Heard.{heard}
 use Rattle.history.specs.Calls.{Call, up, input, tick, wrote, down}
@@ -98,9 +99,13 @@ abbrev pub isCircuit : Who → Live → Bool
 isCircuit who live.Nothing = false
 isCircuit who (live.On conn) = eqb (conn .0) (who .circuit .0)
 
+-- what candidates are chosen by (section 7): the usual limits, and private targets on or off
+abbrev pub termsOf : Settings → Terms
+termsOf s = record { limits = usual; private = s .private }
+
 -- the CONNECT of a round, from the own list of the call that opens it: the candidates chosen from the list, framed (sections 4, 5 and 7)
-abbrev pub connectOf : List ℕ → List ℕ
-connectOf list = frameBytes Connect (own usual (entries list))
+abbrev pub connectOf : Settings → List ℕ → List ℕ
+connectOf s list = frameBytes Connect (own (termsOf s .limits) (entries list))
 
 abbrev pub begins : Settings → Host → (own : List ℕ) → Book → Offer → Book
 begins s h own b offer.Nothing = closed b
@@ -112,7 +117,7 @@ begins s h own b (offer.Stream conn stream) =
         end = min (plus (h .at) (s .exchange)) (b .deadline);
         count = 0;
         connect = Unsent;
-        message = connectOf own;
+        message = connectOf s own;
       });
       deadline = b .deadline;
       rounds = b .rounds + 1;
@@ -185,7 +190,7 @@ abbrev pub replied : Settings → Who → Host → (own : List ℕ) → Book →
 replied s who h own b x (unfinished n) = inStage b (asking (withCount x n))
 replied s who h own b x failed = wanted s who h own b
 replied s who h own b x (connect addresses) =
-    inStage b (within (opened s (b .deadline) (h .at) (tripOf (x .connect) (h .at)) (selected usual (s .private) addresses)))
+    inStage b (within (opened s (b .deadline) (h .at) (tripOf (x .connect) (h .at)) (selected (termsOf s) addresses)))
 
 -- CONNECT has gone out before
 abbrev pub answeredBy : Settings → Who → Host → (own buffer : List ℕ) → StreamInput → List ℕ → Book → Asking → Book

@@ -6,7 +6,7 @@ use mathlib.Core.List.{List, [], _∷_, _++_}
 use lib.Dec.{ltb, eqb}
 use Rattle.prelude.specs.Choice.{pick, both, either, no}
 use Rattle.schedule.specs.Readings.{larger, counted}
-use Rattle.candidates.specs.Selection.{usual, selected}
+use Rattle.candidates.specs.Selection.{selected}
 use Rattle.ids.specs.declared.ConnectionId.{ConnectionId}
 use Rattle.ids.specs.declared.StreamId.{StreamId}
 use Rattle.ids.specs.declared.PeerId.{PeerId}
@@ -24,7 +24,7 @@ use Rattle.history.specs.Numbers.{wentOut, isData}
 use Rattle.history.specs.Heard.{heard}
 use Rattle.history.specs.Calls.{Call, up, input, tick, wrote, down}
 use Rattle.history.specs.Refuses.{refusal, turned, next}
-use Rattle.history.specs.Book.{Window, Asking, Stage, handshaking, asking, within, over, Book, Who, isCircuit, armed, isClosing, tripOf}
+use Rattle.history.specs.Book.{Window, Asking, Stage, handshaking, asking, within, over, Book, Who, isCircuit, termsOf, armed, isClosing, tripOf}
 
 -- an effect, with what belongs to it
 pub data Says : Type 0 where
@@ -126,7 +126,7 @@ repliedTells s who h b x (unfinished n) = nothing
 repliedTells s who h b x failed = wants who h b (reset (x .conn) (x .stream) ∷ [])
 repliedTells s who h b x (connect addresses) =
     record {
-      said = blast s (pick (eqb (tripOf (x .connect) (h .at)) 0) 1 0) (selected usual (s .private) addresses)
+      said = blast s (pick (eqb (tripOf (x .connect) (h .at)) 0) 1 0) (selected (termsOf s) addresses)
           ++ (send (x .conn) (x .stream) sync ∷ reset (x .conn) (x .stream) ∷ []);
       lot = until (b .deadline);
     }

@@ -78,7 +78,7 @@ pub fn three_effects()
 
 // The CONNECT of an own list carries the candidates chosen from it, behind its length; that of a broken list is empty.
 pub fn own_message()
-    ensures { λ _. ⌜ ((list : List ℕ) → OwnList list) ⌝ }
+    ensures { λ _. ⌜ ((s : Settings) (list : List ℕ) → OwnList s list) ⌝ }
 {}
 
 // The datagrams of each answer of the worked example.

@@ -14,6 +14,7 @@ use Rattle.vocabulary.specs.declared.StreamInput.{StreamInput}
 use Rattle.circuit.specs.declared.decision.Decision.{Decision}
 use Rattle.inbound.specs.declared.InboundCircuit.{InboundCircuit}
 use Rattle.inbound.specs.declared.Answer.{Answer}
+use Rattle.circuit.specs.State.{termsOf}
 use Rattle.lent.specs.Carried.{messageOf, ledgerAfter, connectAfter, targetsAfter, noFrame, noAims}
 use Rattle.circuit.specs.Decisions.{lengthOf}
 use Rattle.circuit.specs.Calls.{startedOf, wroteOf, downOf}
@@ -44,7 +45,7 @@ plainly c d = answerOf d (c .connect) (c .targets) (frame.packed [])
 
 -- a round may open; what goes out is the CONNECT from before
 abbrev pub opening : InboundCircuit → List ℕ → Decision → Answer
-opening c own d = answerOf d (connectAfter own (c .connect) (d .fourth)) (c .targets) (messageOf (c .connect) (d .message))
+opening c own d = answerOf d (connectAfter (termsOf (c .core .settings)) own (c .connect) (d .fourth)) (c .targets) (messageOf (c .connect) (d .message))
 
 unfoldable pub newAnswer : PeerId → PeerId → ConnectionId → Settings → ℕ → Answer
 newAnswer source relay circuit s at =
@@ -59,7 +60,7 @@ tickAnswer c h own = opening c own (tickOf (c .core) h own)
 -- a window may open too
 abbrev pub hearing : InboundCircuit → (own buffer bytes : List ℕ) → Decision → Answer
 hearing c own buffer bytes d =
-    answerOf d (connectAfter own (c .connect) (d .fourth)) (targetsAfter (c .targets) (peeked (c .core) buffer bytes .targets) (d .window))
+    answerOf d (connectAfter (termsOf (c .core .settings)) own (c .connect) (d .fourth)) (targetsAfter (c .targets) (peeked (c .core) buffer bytes .targets) (d .window))
     (messageOf (c .connect) (d .message))
 
 abbrev pub decidedAt : InboundCircuit → PathLedger → Host → (own buffer : List ℕ) → StreamId → StreamInput → (bytes : List ℕ) → (pending : Bool) → Decision

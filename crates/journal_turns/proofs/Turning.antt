@@ -35,6 +35,7 @@ use Rattle.vocabulary.specs.declared.Outcome.the-variants.{Accepted, Refused}
 use Rattle.circuit.specs.declared.state.Core.{Core}
 use Rattle.circuit.specs.declared.decision.Decision.{Decision}
 use Rattle.circuit.specs.declared.decision.Fate.{Fate}
+use Rattle.circuit.specs.State.{termsOf}
 use Rattle.circuit.specs.Decisions.{refusedOf, quietOf, decidedOf, silence, eventOf}
 use Rattle.lent.specs.Carried.{sentAfter, ledgerAfter, opens, connectAfter, targetsAfter}
 use Rattle.circuit.specs.Calls.{startedOf, wroteOf, downOf}
@@ -54,7 +55,7 @@ use Rattle.journal_turns.specs.Turns.{Journal, stateOf, whole, Turned, t
 -- ---- what a refused decision leaves
 
 module _ (c : Core) (own connect sent : List ℕ) where
-  kept-connect : (why : Refusal) → connectAfter own connect (refusedOf c why .fourth) ≡ connect
+  kept-connect : (why : Refusal) → connectAfter (termsOf (c .settings)) own connect (refusedOf c why .fourth) ≡ connect
   unfolding refusedOf connectAfter opens
   kept-connect why = refl
 
@@ -113,8 +114,8 @@ module _ (s : State) (connect targets ws sent : List ℕ) (long : length ws ≡ 
   -- ---- up, input and tick
 
   module _ (own : List ℕ) (d : Decision) (turned : Whole (s .core) d) where
-    stays-connect : (why : Refusal) → d .outcome ≡ Refused why → connectAfter own connect (d .fourth) ≡ connect
-    stays-connect why e = ap (λ (z : Decision). connectAfter own connect (z .fourth)) (turned why e) ∙ kept-connect (s .core) own connect sent why
+    stays-connect : (why : Refusal) → d .outcome ≡ Refused why → connectAfter (termsOf (s .core .settings)) own connect (d .fourth) ≡ connect
+    stays-connect why e = ap (λ (z : Decision). connectAfter (termsOf (s .core .settings)) own connect (z .fourth)) (turned why e) ∙ kept-connect (s .core) own connect sent why
 
     stays-sent : (why : Refusal) → d .outcome ≡ Refused why → sentAfter connect sent (d .message) ≡ sent
     stays-sent why e = ap (λ (z : Decision). sentAfter connect sent (z .message)) (turned why e) ∙ kept-sent (s .core) own connect sent why
@@ -132,7 +133,7 @@ module _ (s : State) (connect targets ws sent : List ℕ) (long : length ws ≡ 
 
   pub up-left : (h : Host) (own : List ℕ) (peer : PeerId) (conn : ConnectionId) (relayed : Bool) {r : Turn} {c n zs : List ℕ}
       → (r ≡ settledIn s (upOf (s .core) h own peer conn relayed) (upOf (s .core) h own peer conn relayed .outcome))
-      × ((c ≡ connectAfter own connect (upOf (s .core) h own peer conn relayed .fourth))
+      × ((c ≡ connectAfter (termsOf (s .core .settings)) own connect (upOf (s .core) h own peer conn relayed .fourth))
       × ((n ≡ sentAfter connect sent (upOf (s .core) h own peer conn relayed .message))
       × ((tablesOf zs ≡ ledgerAfter (s .core .source) (tablesOf ws) (upOf (s .core) h own peer conn relayed .window))
       × (zs ≡ laid (ledgerAfter (s .core .source) (tablesOf ws) (upOf (s .core) h own peer conn relayed .window)) ws))))
@@ -151,7 +152,7 @@ module _ (s : State) (connect targets ws sent : List ℕ) (long : length ws ≡ 
 
   pub tick-left : (h : Host) (own : List ℕ) {r : Turn} {c n zs : List ℕ}
       → (r ≡ settledIn s (tickOf (s .core) h own) (tickOf (s .core) h own .outcome))
-      × ((c ≡ connectAfter own connect (tickOf (s .core) h own .fourth)) × ((n ≡ sentAfter connect sent (tickOf (s .core) h own .message))
+      × ((c ≡ connectAfter (termsOf (s .core .settings)) own connect (tickOf (s .core) h own .fourth)) × ((n ≡ sentAfter connect sent (tickOf (s .core) h own .message))
       × ((tablesOf zs ≡ expired (tickOf (s .core) h own .outcome) (ledgerAfter (s .core .source) (tablesOf ws) (tickOf (s .core) h own .window)) (h .at))
       × (zs ≡ laid (expired (tickOf (s .core) h own .outcome) (ledgerAfter (s .core .source) (tablesOf ws) (tickOf (s .core) h own .window)) (h .at))
       (laid (ledgerAfter (s .core .source) (tablesOf ws) (tickOf (s .core) h own .window)) ws)))))
@@ -182,7 +183,7 @@ module _ (s : State) (connect targets ws sent : List ℕ) (long : length ws ≡ 
   pub input-left : (h : Host) (own reply : List ℕ) (stream : StreamId) (k : Kind) (bytes : List ℕ) (pending : Bool) {x : StreamInput} {e : Decision}
       {r : Turn} {c a n zs b : List ℕ} → x ≡ inputOf k → r ≡ settledIn s e (e .outcome)
       → (e ≡ decidedAt (j .circuit) (tablesOf ws) h own reply stream x bytes pending)
-      × ((c ≡ connectAfter own connect (decidedAt (j .circuit) (tablesOf ws) h own reply stream x bytes pending .fourth))
+      × ((c ≡ connectAfter (termsOf (s .core .settings)) own connect (decidedAt (j .circuit) (tablesOf ws) h own reply stream x bytes pending .fourth))
       × ((a ≡ targetsAfter targets (peeked (s .core) reply bytes .targets) (decidedAt (j .circuit) (tablesOf ws) h own reply stream x bytes pending .window))
       × ((n ≡ sentAfter connect sent (decidedAt (j .circuit) (tablesOf ws) h own reply stream x bytes pending .message))
       × ((tablesOf zs ≡ ledgerAfter (s .core .source) (tablesOf ws) (decidedAt (j .circuit) (tablesOf ws) h own reply stream x bytes pending .window))

@@ -34,6 +34,7 @@ use Rattle.vocabulary.specs.declared.Outcome.{Outcome}
 use Rattle.circuit.specs.declared.state.Core.{Core}
 use Rattle.circuit.specs.declared.decision.Decision.{Decision}
 use Rattle.inbound.specs.declared.InboundCircuit.{InboundCircuit}
+use Rattle.circuit.specs.State.{termsOf}
 use Rattle.circuit.specs.Decisions.{lengthOf}
 use Rattle.lent.specs.Carried.{sentAfter, ledgerAfter, connectAfter, targetsAfter}
 use Rattle.circuit.specs.Calls.{startedOf, wroteOf, downOf}
@@ -271,7 +272,7 @@ abbrev pub upIn : Journal → (own : List ℕ) → Decision → Turned
 upIn j own d =
     settled j d
     (record {
-      connect = connectAfter own (j .circuit .connect) (d .fourth);
+      connect = connectAfter (termsOf (j .circuit .core .settings)) own (j .circuit .connect) (d .fourth);
       targets = j .circuit .targets;
       ledger = ledgerBy j d;
       words = laid (ledgerBy j d) (j .words);
@@ -291,7 +292,7 @@ abbrev pub heardBy : Journal → (own reply bytes : List ℕ) → Decision → T
 heardBy j own reply bytes d =
     settled j d
     (record {
-      connect = connectAfter own (j .circuit .connect) (d .fourth);
+      connect = connectAfter (termsOf (j .circuit .core .settings)) own (j .circuit .connect) (d .fourth);
       targets = targetsAfter (j .circuit .targets) (peeked (j .circuit .core) reply bytes .targets) (d .window);
       ledger = ledgerBy j d;
       words = laid (ledgerBy j d) (j .words);
@@ -315,7 +316,7 @@ abbrev pub tickIn : Journal → ℕ → (own : List ℕ) → Decision → Turned
 tickIn j at own d =
     settled j d
     (record {
-      connect = connectAfter own (j .circuit .connect) (d .fourth);
+      connect = connectAfter (termsOf (j .circuit .core .settings)) own (j .circuit .connect) (d .fourth);
       targets = j .circuit .targets;
       ledger = expired (d .outcome) (ledgerBy j d) at;
       words = laid (expired (d .outcome) (ledgerBy j d) at) (laid (ledgerBy j d) (j .words));

@@ -34,6 +34,7 @@ ghost use lib.ListN.{length, replicate};
 ghost use Rattle.text.specs.Printed.{printed, behind};
 ghost use Rattle.path.specs.declared.DialPurpose.the-variants.{Punch};
 ghost use Rattle.ledger.specs.Ledger.{tablesOf, laid, dialStarted, forgotten, attributed};
+ghost use Rattle.circuit.specs.State.{termsOf};
 ghost use Rattle.lent.specs.Carried.{sentAfter, ledgerAfter, connectAfter, noFrame, noAims};
 ghost use Rattle.circuit.specs.Calls.{startedOf, wroteOf, downOf};
 ghost use Rattle.lent.specs.Calls.{upOf, tickOf};
@@ -274,7 +275,7 @@ fn up_turn(
     circuit: bool,
 ) -> Turn
     ensures turn { λ r. ⌜ r ≡ settledIn j (upOf (j .core) host (now (own .entry)) peer conn circuit) (upOf (j .core) host (now (own .entry)) peer conn circuit .outcome) ⌝ }
-    ensures connect { λ r. ⌜ now (connect .exit) ≡ connectAfter (now (own .entry)) (now (connect .entry)) (upOf (j .core) host (now (own .entry)) peer conn circuit .fourth) ⌝ }
+    ensures connect { λ r. ⌜ now (connect .exit) ≡ connectAfter (termsOf (j .core .settings)) (now (own .entry)) (now (connect .entry)) (upOf (j .core) host (now (own .entry)) peer conn circuit .fourth) ⌝ }
     ensures sent { λ r. ⌜ now (sent .exit) ≡ sentAfter (now (connect .entry)) (now (sent .entry)) (upOf (j .core) host (now (own .entry)) peer conn circuit .message) ⌝ }
     ensures tables { λ r. ⌜ tablesOf (now (ledger .exit)) ≡ ledgerAfter (j .core .source) (tablesOf (now (ledger .entry))) (upOf (j .core) host (now (own .entry)) peer conn circuit .window) ⌝ }
     ensures words { λ r. ⌜ now (ledger .exit) ≡ laid (ledgerAfter (j .core .source) (tablesOf (now (ledger .entry))) (upOf (j .core) host (now (own .entry)) peer conn circuit .window)) (now (ledger .entry)) ⌝ }
@@ -310,7 +311,7 @@ fn up_line(
 ) -> Turn
     requires { ⌜ length (now line) < longest ⌝ }
     ensures turn { λ r. ⌜ r ≡ settledIn j (upOf (j .core) (hostOf at live offer) (digitsBytes (now (line .entry)) own) peer conn circuit) (upOf (j .core) (hostOf at live offer) (digitsBytes (now (line .entry)) own) peer conn circuit .outcome) ⌝ }
-    ensures connect { λ r. ⌜ now (connect .exit) ≡ connectAfter (digitsBytes (now (line .entry)) own) (now (connect .entry)) (upOf (j .core) (hostOf at live offer) (digitsBytes (now (line .entry)) own) peer conn circuit .fourth) ⌝ }
+    ensures connect { λ r. ⌜ now (connect .exit) ≡ connectAfter (termsOf (j .core .settings)) (digitsBytes (now (line .entry)) own) (now (connect .entry)) (upOf (j .core) (hostOf at live offer) (digitsBytes (now (line .entry)) own) peer conn circuit .fourth) ⌝ }
     ensures sent { λ r. ⌜ now (sent .exit) ≡ sentAfter (now (connect .entry)) (now (sent .entry)) (upOf (j .core) (hostOf at live offer) (digitsBytes (now (line .entry)) own) peer conn circuit .message) ⌝ }
     ensures tables { λ r. ⌜ tablesOf (now (ledger .exit)) ≡ ledgerAfter (j .core .source) (tablesOf (now (ledger .entry))) (upOf (j .core) (hostOf at live offer) (digitsBytes (now (line .entry)) own) peer conn circuit .window) ⌝ }
     ensures words { λ r. ⌜ now (ledger .exit) ≡ laid (ledgerAfter (j .core .source) (tablesOf (now (ledger .entry))) (upOf (j .core) (hostOf at live offer) (digitsBytes (now (line .entry)) own) peer conn circuit .window)) (now (ledger .entry)) ⌝ }
@@ -465,7 +466,7 @@ fn tick_turn(
     own: &[u8],
 ) -> Turn
     ensures turn { λ r. ⌜ r ≡ settledIn j (tickOf (j .core) host (now (own .entry))) (tickOf (j .core) host (now (own .entry)) .outcome) ⌝ }
-    ensures connect { λ r. ⌜ now (connect .exit) ≡ connectAfter (now (own .entry)) (now (connect .entry)) (tickOf (j .core) host (now (own .entry)) .fourth) ⌝ }
+    ensures connect { λ r. ⌜ now (connect .exit) ≡ connectAfter (termsOf (j .core .settings)) (now (own .entry)) (now (connect .entry)) (tickOf (j .core) host (now (own .entry)) .fourth) ⌝ }
     ensures sent { λ r. ⌜ now (sent .exit) ≡ sentAfter (now (connect .entry)) (now (sent .entry)) (tickOf (j .core) host (now (own .entry)) .message) ⌝ }
     ensures tables { λ r. ⌜ tablesOf (now (ledger .exit)) ≡ expired (tickOf (j .core) host (now (own .entry)) .outcome) (ledgerAfter (j .core .source) (tablesOf (now (ledger .entry))) (tickOf (j .core) host (now (own .entry)) .window)) (host .at) ⌝ }
     ensures words { λ r. ⌜ now (ledger .exit) ≡ laid (expired (tickOf (j .core) host (now (own .entry)) .outcome) (ledgerAfter (j .core .source) (tablesOf (now (ledger .entry))) (tickOf (j .core) host (now (own .entry)) .window)) (host .at)) (laid (ledgerAfter (j .core .source) (tablesOf (now (ledger .entry))) (tickOf (j .core) host (now (own .entry)) .window)) (now (ledger .entry))) ⌝ }
@@ -490,7 +491,7 @@ fn tick_line(
 ) -> Turn
     requires { ⌜ length (now line) < longest ⌝ }
     ensures turn { λ r. ⌜ r ≡ settledIn j (tickOf (j .core) (hostOf at live offer) (digitsBytes (now (line .entry)) own)) (tickOf (j .core) (hostOf at live offer) (digitsBytes (now (line .entry)) own) .outcome) ⌝ }
-    ensures connect { λ r. ⌜ now (connect .exit) ≡ connectAfter (digitsBytes (now (line .entry)) own) (now (connect .entry)) (tickOf (j .core) (hostOf at live offer) (digitsBytes (now (line .entry)) own) .fourth) ⌝ }
+    ensures connect { λ r. ⌜ now (connect .exit) ≡ connectAfter (termsOf (j .core .settings)) (digitsBytes (now (line .entry)) own) (now (connect .entry)) (tickOf (j .core) (hostOf at live offer) (digitsBytes (now (line .entry)) own) .fourth) ⌝ }
     ensures sent { λ r. ⌜ now (sent .exit) ≡ sentAfter (now (connect .entry)) (now (sent .entry)) (tickOf (j .core) (hostOf at live offer) (digitsBytes (now (line .entry)) own) .message) ⌝ }
     ensures tables { λ r. ⌜ tablesOf (now (ledger .exit)) ≡ expired (tickOf (j .core) (hostOf at live offer) (digitsBytes (now (line .entry)) own) .outcome) (ledgerAfter (j .core .source) (tablesOf (now (ledger .entry))) (tickOf (j .core) (hostOf at live offer) (digitsBytes (now (line .entry)) own) .window)) (hostOf at live offer .at) ⌝ }
     ensures words { λ r. ⌜ now (ledger .exit) ≡ laid (expired (tickOf (j .core) (hostOf at live offer) (digitsBytes (now (line .entry)) own) .outcome) (ledgerAfter (j .core .source) (tablesOf (now (ledger .entry))) (tickOf (j .core) (hostOf at live offer) (digitsBytes (now (line .entry)) own) .window)) (hostOf at live offer .at)) (laid (ledgerAfter (j .core .source) (tablesOf (now (ledger .entry))) (tickOf (j .core) (hostOf at live offer) (digitsBytes (now (line .entry)) own) .window)) (now (ledger .entry))) ⌝ }

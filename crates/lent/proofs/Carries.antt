@@ -15,6 +15,7 @@ use Rattle.refusal.specs.declared.Refusal.{Refusal}
 use Rattle.refusal.specs.declared.Refusal.the-variants.{ReplyBufferTooShort}
 use Rattle.wire.specs.Frame.{maxFrameSize}
 use Rattle.candidates.specs.declared.Chosen.{Chosen}
+use Rattle.candidates.specs.declared.Terms.{Terms}
 use Rattle.frames.specs.declared.Framed.{Framed}
 use Rattle.frames.specs.Gathering.{gatheredInto}
 use Rattle.ledger.specs.Ledger.{tablesOf, laid, endPunches, expectPunches}
@@ -32,6 +33,7 @@ use Rattle.circuit.specs.declared.decision.Fate.the-variants.{Kept, Removed, Op
 use Rattle.circuit.specs.declared.decision.Message.the-variants as message
 use Rattle.circuit.specs.declared.input.Heard.the-variants as heard
 use Rattle.lent.specs.declared.reply.Peeked.{Peeked}
+use Rattle.circuit.specs.State.{termsOf}
 use Rattle.circuit.specs.Decisions.{refusedOf}
 use Rattle.circuit.specs.Refusals.{checkOf}
 use Rattle.circuit.specs.Inputs.{inputAt, awaits, frameBytes}
@@ -47,36 +49,36 @@ sets-whole o new h =
     sets-front o new (omega arith) ∙ ap (λ (t : List ℕ). new ++ t) (drop-of-length-le o {i = length new} (omega arith)) ∙ append-nil new
 
 -- only the core's number of CONNECT bytes changes
-module _ (own : List ℕ) (d : Decision) where
-  pub framed-fourth : framedBy own d .fourth ≡ d .fourth
+module _ (t : Terms) (own : List ℕ) (d : Decision) where
+  pub framed-fourth : framedBy t own d .fourth ≡ d .fourth
   unfolding framedBy
   framed-fourth = go (opens (d .fourth))
     where
-      go : (v : Bool) → pick v (withCore d (withConnect (d .core) (ownConnect own .len))) d .fourth ≡ d .fourth
+      go : (v : Bool) → pick v (withCore d (withConnect (d .core) (ownConnect (t .limits) own .len))) d .fourth ≡ d .fourth
       go true = refl
       go false = refl
 
-  pub framed-message : framedBy own d .message ≡ d .message
+  pub framed-message : framedBy t own d .message ≡ d .message
   unfolding framedBy
   framed-message = go (opens (d .fourth))
     where
-      go : (v : Bool) → pick v (withCore d (withConnect (d .core) (ownConnect own .len))) d .message ≡ d .message
+      go : (v : Bool) → pick v (withCore d (withConnect (d .core) (ownConnect (t .limits) own .len))) d .message ≡ d .message
       go true = refl
       go false = refl
 
-  pub framed-window : framedBy own d .window ≡ d .window
+  pub framed-window : framedBy t own d .window ≡ d .window
   unfolding framedBy
   framed-window = go (opens (d .fourth))
     where
-      go : (v : Bool) → pick v (withCore d (withConnect (d .core) (ownConnect own .len))) d .window ≡ d .window
+      go : (v : Bool) → pick v (withCore d (withConnect (d .core) (ownConnect (t .limits) own .len))) d .window ≡ d .window
       go true = refl
       go false = refl
 
-  pub framed-outcome : framedBy own d .outcome ≡ d .outcome
+  pub framed-outcome : framedBy t own d .outcome ≡ d .outcome
   unfolding framedBy
   framed-outcome = go (opens (d .fourth))
     where
-      go : (v : Bool) → pick v (withCore d (withConnect (d .core) (ownConnect own .len))) d .outcome ≡ d .outcome
+      go : (v : Bool) → pick v (withCore d (withConnect (d .core) (ownConnect (t .limits) own .len))) d .outcome ≡ d .outcome
       go true = refl
       go false = refl
 
@@ -102,33 +104,33 @@ module _ (source : PeerId) (ws : List ℕ) {w : Fate} where
 
 -- ---- the CONNECT of a round
 
-module _ (own connect : List ℕ) (d : Decision) {x : List ℕ} {f : Framed} where
-  pub connect-written : opens (d .fourth) ≡ true → f ≡ ownConnect own → x ≡ f .bytes
-      → (withCore d (withConnect (d .core) (f .len)) ≡ framedBy own d) × (x ≡ connectAfter own connect (d .fourth))
+module _ (u : Terms) (own connect : List ℕ) (d : Decision) where
+  pub connect-written : {x : List ℕ} {f : Framed} → opens (d .fourth) ≡ true → f ≡ ownConnect (u .limits) own → x ≡ f .bytes
+      → (withCore d (withConnect (d .core) (f .len)) ≡ framedBy u own d) × (x ≡ connectAfter u own connect (d .fourth))
   unfolding framedBy connectAfter
   connect-written o e g = rw o (ap (λ (y : Framed). withCore d (withConnect (d .core) (y .len))) e, g ∙ ap (λ (y : Framed). y .bytes) e)
 
-pub connect-stays : (own connect : List ℕ) (d : Decision) → opens (d .fourth) ≡ false
-    → (d ≡ framedBy own d) × (connect ≡ connectAfter own connect (d .fourth))
-unfolding framedBy connectAfter
-connect-stays own connect d o = rw o (refl, refl)
+  pub connect-stays : opens (d .fourth) ≡ false → (d ≡ framedBy u own d) × (connect ≡ connectAfter u own connect (d .fourth))
+  unfolding framedBy connectAfter
+  connect-stays o = rw o (refl, refl)
 
--- ---- a decision carried out
+-- ---- a decision carried out, by terms that are the circuit's
 
-module _ (own connect sent ws : List ℕ) (source : PeerId) {d e r : Decision} {x y zs : List ℕ} (same : d ≡ e)
-    (p : (r ≡ framedBy own d) × ((x ≡ connectAfter own connect (d .fourth)) × ((y ≡ sentAfter connect sent (d .message))
+module _ (u : Terms) (own connect sent ws : List ℕ) (source : PeerId) {d e r : Decision} {v : Terms} {x y zs : List ℕ} (same : d ≡ e) (by : v ≡ u)
+    (p : (r ≡ framedBy v own d) × ((x ≡ connectAfter v own connect (d .fourth)) × ((y ≡ sentAfter connect sent (d .message))
     × ((tablesOf zs ≡ ledgerAfter source (tablesOf ws) (d .window)) × (zs ≡ laid (ledgerAfter source (tablesOf ws) (d .window)) ws))))) where
-  fate : d .window ≡ framedBy own e .window
-  fate = ap (λ (z : Decision). z .window) same ∙ sym (framed-window own e)
+  fate : d .window ≡ framedBy u own e .window
+  fate = ap (λ (z : Decision). z .window) same ∙ sym (framed-window u own e)
 
-  pub done : (r ≡ framedBy own e) × ((x ≡ connectAfter own connect (framedBy own e .fourth)) × ((y ≡ sentAfter connect sent (framedBy own e .message))
-      × ((tablesOf zs ≡ ledgerAfter source (tablesOf ws) (framedBy own e .window)) × (zs ≡ laid (ledgerAfter source (tablesOf ws) (framedBy own e .window)) ws))))
+  pub done : (r ≡ framedBy u own e) × ((x ≡ connectAfter u own connect (framedBy u own e .fourth)) × ((y ≡ sentAfter connect sent (framedBy u own e .message))
+      × ((tablesOf zs ≡ ledgerAfter source (tablesOf ws) (framedBy u own e .window)) × (zs ≡ laid (ledgerAfter source (tablesOf ws) (framedBy u own e .window)) ws))))
   done = (
-    p .0 ∙ ap (framedBy own) same,
+    p .0 ∙ ap (framedBy v own) same ∙ ap (λ (z : Terms). framedBy z own e) by,
     (
-      p .1 .0 ∙ ap (connectAfter own connect) (ap (λ (z : Decision). z .fourth) same ∙ sym (framed-fourth own e)),
+      p .1 .0 ∙ ap (connectAfter v own connect) (ap (λ (z : Decision). z .fourth) same ∙ sym (framed-fourth u own e))
+          ∙ ap (λ (z : Terms). connectAfter z own connect (framedBy u own e .fourth)) by,
       (
-        p .1 .1 .0 ∙ ap (sentAfter connect sent) (ap (λ (z : Decision). z .message) same ∙ sym (framed-message own e)),
+        p .1 .1 .0 ∙ ap (sentAfter connect sent) (ap (λ (z : Decision). z .message) same ∙ sym (framed-message u own e)),
         (
           p .1 .1 .1 .0 ∙ ap (ledgerAfter source (tablesOf ws)) fate,
           p .1 .1 .1 .1 ∙ ap (λ (z : Fate). laid (ledgerAfter source (tablesOf ws) z) ws) fate,
@@ -138,30 +140,30 @@ module _ (own connect sent ws : List ℕ) (source : PeerId) {d e r : Decision} {
   )
 
 -- and with the targets and the reply buffer of an input
-module _ (own connect sent ws : List ℕ) (source : PeerId) (targets : List ℕ) (q : Chosen) (c : Core) (at : ℕ) (buffer : List ℕ) (stream : StreamId)
-    (kind : StreamInput) (bytes : List ℕ) {d e r : Decision} {x y zs t b : List ℕ}
-    (s : (d ≡ e) × ((t ≡ targetsAfter targets q (e .window)) × (b ≡ bufferAfter c at buffer stream kind bytes (e .outcome))))
-    (p : (r ≡ framedBy own d) × ((x ≡ connectAfter own connect (d .fourth)) × ((y ≡ sentAfter connect sent (d .message))
+module _ (u : Terms) (own connect sent ws : List ℕ) (source : PeerId) (targets : List ℕ) (q : Chosen) (c : Core) (at : ℕ) (buffer : List ℕ)
+    (stream : StreamId) (kind : StreamInput) (bytes : List ℕ) {d e r : Decision} {v : Terms} {x y zs t b : List ℕ}
+    (s : (d ≡ e) × ((t ≡ targetsAfter targets q (e .window)) × (b ≡ bufferAfter c at buffer stream kind bytes (e .outcome)))) (by : v ≡ u)
+    (p : (r ≡ framedBy v own d) × ((x ≡ connectAfter v own connect (d .fourth)) × ((y ≡ sentAfter connect sent (d .message))
     × ((tablesOf zs ≡ ledgerAfter source (tablesOf ws) (d .window)) × (zs ≡ laid (ledgerAfter source (tablesOf ws) (d .window)) ws))))) where
-  pub done-input : (r ≡ framedBy own e) × ((x ≡ connectAfter own connect (framedBy own e .fourth))
-      × ((t ≡ targetsAfter targets q (framedBy own e .window)) × ((y ≡ sentAfter connect sent (framedBy own e .message))
-      × ((tablesOf zs ≡ ledgerAfter source (tablesOf ws) (framedBy own e .window))
-      × ((zs ≡ laid (ledgerAfter source (tablesOf ws) (framedBy own e .window)) ws)
-      × (b ≡ bufferAfter c at buffer stream kind bytes (framedBy own e .outcome)))))))
+  pub done-input : (r ≡ framedBy u own e) × ((x ≡ connectAfter u own connect (framedBy u own e .fourth))
+      × ((t ≡ targetsAfter targets q (framedBy u own e .window)) × ((y ≡ sentAfter connect sent (framedBy u own e .message))
+      × ((tablesOf zs ≡ ledgerAfter source (tablesOf ws) (framedBy u own e .window))
+      × ((zs ≡ laid (ledgerAfter source (tablesOf ws) (framedBy u own e .window)) ws)
+      × (b ≡ bufferAfter c at buffer stream kind bytes (framedBy u own e .outcome)))))))
   done-input =
-      let u = done own connect sent ws source (s .0) p in (
-        u .0,
+      let k = done u own connect sent ws source (s .0) by p in (
+        k .0,
         (
-          u .1 .0,
+          k .1 .0,
           (
-            s .1 .0 ∙ ap (targetsAfter targets q) (sym (framed-window own e)),
+            s .1 .0 ∙ ap (targetsAfter targets q) (sym (framed-window u own e)),
             (
-              u .1 .1 .0,
+              k .1 .1 .0,
               (
-                u .1 .1 .1 .0,
+                k .1 .1 .1 .0,
                 (
-                  u .1 .1 .1 .1,
-                  s .1 .1 ∙ ap (bufferAfter c at buffer stream kind bytes) (sym (framed-outcome own e)),
+                  k .1 .1 .1 .1,
+                  s .1 .1 ∙ ap (bufferAfter c at buffer stream kind bytes) (sym (framed-outcome u own e)),
                 ),
               ),
             ),
@@ -177,23 +179,24 @@ module _ (c : Core) (full : Bool) (h : Host) (targets buffer : List ℕ) (stream
       (d ≡ e) × ((t ≡ targetsAfter targets (peeked c buffer bytes .targets) (e .window)) × (b ≡ s))
 
   -- what was peeked at decides
-  pub heard-then : {n : ℕ} {p : Peeked} {f a : Bool} {d : Decision} {t b : List ℕ} → n ≡ frameBytes (c .phase)
-      → p ≡ peekedOf (c .settings .private) (broughtBy bytes buffer n) → f ≡ full
+  pub heard-then : {n : ℕ} {v : Terms} {p : Peeked} {f a : Bool} {d : Decision} {t b : List ℕ} → n ≡ frameBytes (c .phase)
+      → v ≡ termsOf (c .settings) → p ≡ peekedOf v (broughtBy bytes buffer n) → f ≡ full
       → d ≡ inputAt c h stream kind pending (p .heard) (p .targets .len) f (c .phase) → a ≡ isAccepted (d .outcome)
       → b ≡ pick a (gatheredInto bytes buffer n) buffer → t ≡ targetsAfter targets (p .targets) (d .window)
       → Heard·by d t b (hearing c full h buffer stream kind bytes pending)
       (pick (isAccepted (hearing c full h buffer stream kind bytes pending .outcome)) (gatheredInto bytes buffer (frameBytes (c .phase))) buffer)
   unfolding hearing
-  heard-then {n} {p} {f} {a} {d} {t} {b} i j k l m o q =
-      let u : p ≡ peeked c buffer bytes = j ∙ ap (λ (z : ℕ). peekedOf (c .settings .private) (broughtBy bytes buffer z)) i in
-      let v : d ≡ hearing c full h buffer stream kind bytes pending =
+  heard-then {n} {v} {p} {f} {a} {d} {t} {b} i by j k l m o q =
+      let u : p ≡ peeked c buffer bytes =
+      j ∙ ap (λ (z : Terms). peekedOf z (broughtBy bytes buffer n)) by ∙ ap (λ (z : ℕ). peekedOf (termsOf (c .settings)) (broughtBy bytes buffer z)) i in
+      let w : d ≡ hearing c full h buffer stream kind bytes pending =
       l ∙ ap (λ (z : Peeked). inputAt c h stream kind pending (z .heard) (z .targets .len) f (c .phase)) u
       ∙ ap (λ (z : Bool). inputAt c h stream kind pending (peeked c buffer bytes .heard) (peeked c buffer bytes .targets .len) z (c .phase)) k in (
-        v,
+        w,
         (
           q ∙ ap (λ (z : Peeked). targetsAfter targets (z .targets) (d .window)) u
-              ∙ ap (λ (z : Decision). targetsAfter targets (peeked c buffer bytes .targets) (z .window)) v,
-          o ∙ ap (λ (z : Bool). pick z (gatheredInto bytes buffer n) buffer) (m ∙ ap (λ (z : Decision). isAccepted (z .outcome)) v)
+              ∙ ap (λ (z : Decision). targetsAfter targets (peeked c buffer bytes .targets) (z .window)) w,
+          o ∙ ap (λ (z : Bool). pick z (gatheredInto bytes buffer n) buffer) (m ∙ ap (λ (z : Decision). isAccepted (z .outcome)) w)
               ∙ ap (λ (z : ℕ). pick (isAccepted (hearing c full h buffer stream kind bytes pending .outcome)) (gatheredInto bytes buffer z) buffer) i,
         ),
       )

@@ -29,7 +29,8 @@ use Rattle.frames.proofs.Gathers.{gathers-front}
 use Rattle.candidates.specs.declared.Chosen.{Chosen}
 use Rattle.candidates.specs.declared.Selection.{Selection}
 use Rattle.candidates.proofs.Answers.{answer-kept}
-use Rattle.candidates.specs.Selection.{usual, selected, packed}
+use Rattle.candidates.specs.Selection.{heldTerms, selected, packed}
+use Rattle.candidates.specs.declared.Terms.{Terms}
 use Rattle.lent.specs.Brought.{Brought, unfinished, failed, connect, fromContent, fromFrame, broughtBy}
 use Rattle.lent.specs.Replies.{noList, chosenFrom, targetsFrom, peekedOf}
 use Rattle.circuit.specs.declared.input.Heard.the-variants as heard
@@ -145,15 +146,15 @@ listing xs b n those = go (gathered xs b n .frame) (gathers-front xs b n .whole)
         decoded m l = rw (le-ltb maxMessageSize (length m) l)
 
 -- the targets chosen from the list are those of the addresses
-pub targets-are : (xs b : List ℕ) (n : ℕ) (private : Bool) (those : List (List ℕ)) → broughtBy xs b n ≡ connect those
-    → {o : List ℕ} → o ≡ replyInto xs b n noList → chosenFrom private (take (length (listed those)) o) ≡ targetsFrom private those
+pub targets-are : (xs b : List ℕ) (n : ℕ) (terms : Terms) (those : List (List ℕ)) → broughtBy xs b n ≡ connect those
+    → {o : List ℕ} → o ≡ replyInto xs b n noList → chosenFrom terms (take (length (listed those)) o) ≡ targetsFrom terms those
 unfolding chosenFrom targetsFrom
-targets-are xs b n private those h {o} e =
+targets-are xs b n terms those h {o} e =
     let w = listing xs b n those h in
-    ap (chosenFrom private) (ap (take (length (listed those))) e ∙ w .list)
+    ap (chosenFrom terms) (ap (take (length (listed those))) e ∙ w .list)
     ∙ ap (λ (x : Selection). x .chosen)
-    (sym (answer-kept (listed those) (selected usual private (entries (listed those))) (sym (unbroken those (w .short))) refl refl))
-    ∙ ap (λ (ys : List (List ℕ)). packed (listed (selected usual private ys))) (read-back those (w .short))
+    (sym (answer-kept (listed those) (selected (heldTerms terms) (entries (listed those))) (sym (unbroken those (w .short))) refl refl))
+    ∙ ap (λ (ys : List (List ℕ)). packed (listed (selected (heldTerms terms) ys))) (read-back those (w .short))
 
 -- the list is within the room
 pub list-within : (xs b : List ℕ) (n : ℕ) (those : List (List ℕ)) → broughtBy xs b n ≡ connect those → length (listed those) ≤ 4096
@@ -185,16 +186,16 @@ long-into xs b n o = go (gathered xs b n .frame)
     go Broken = refl
     go (Whole start len) = decoded (messageAt start len (gatheredInto xs b n))
 
-module _ (xs b : List ℕ) (n : ℕ) (private : Bool) {a : Reply} {z o : List ℕ} (blank : z ≡ noList) (e : a ≡ replyOf xs b n (length z))
+module _ (xs b : List ℕ) (n : ℕ) (terms : Terms) {a : Reply} {z o : List ℕ} (blank : z ≡ noList) (e : a ≡ replyOf xs b n (length z))
     (f : o ≡ replyInto xs b n z) where
   at-blank : a ≡ replyOf xs b n (length noList)
   at-blank = e ∙ ap (λ (l : List ℕ). replyOf xs b n (length l)) blank
 
-  pub peek-more : {k : ℕ} {t : Chosen} → a ≡ r.More k → t ≡ packed [] → record { heard = heard.More k; targets = t } ≡ peekedOf private (broughtBy xs b n)
+  pub peek-more : {k : ℕ} {t : Chosen} → a ≡ r.More k → t ≡ packed [] → record { heard = heard.More k; targets = t } ≡ peekedOf terms (broughtBy xs b n)
   unfolding peekedOf
   peek-more g h = rw (brings-more xs b n at-blank g, h)
 
-  pub peek-failed : {t : Chosen} → a ≡ r.Failed → t ≡ packed [] → record { heard = heard.Failed; targets = t } ≡ peekedOf private (broughtBy xs b n)
+  pub peek-failed : {t : Chosen} → a ≡ r.Failed → t ≡ packed [] → record { heard = heard.Failed; targets = t } ≡ peekedOf terms (broughtBy xs b n)
   unfolding peekedOf
   peek-failed g h = rw (brings-nothing xs b n at-blank g, h)
 
@@ -208,10 +209,10 @@ module _ (xs b : List ℕ) (n : ℕ) (private : Bool) {a : Reply} {z o : List �
       into-long : length (replyInto xs b n z) ≡ length z
       into-long = long-into xs b n z
 
-  pub peek-connect : {k : ℕ} {t : Chosen} → a ≡ r.Connect k → t ≡ chosenFrom private (take k o)
-      → record { heard = heard.Connect; targets = t } ≡ peekedOf private (broughtBy xs b n)
+  pub peek-connect : {k : ℕ} {t : Chosen} → a ≡ r.Connect k → t ≡ chosenFrom terms (take k o)
+      → record { heard = heard.Connect; targets = t } ≡ peekedOf terms (broughtBy xs b n)
   unfolding peekedOf
   peek-connect {k} {t} g h =
       let w = brings-connect xs b n at-blank g in
       let i : o ≡ replyInto xs b n noList = f ∙ ap (replyInto xs b n) blank in
-      rw (w .1 .0, h ∙ ap (λ (m : ℕ). chosenFrom private (take m o)) (w .1 .1) ∙ targets-are xs b n private (w .0) (w .1 .0) i)
+      rw (w .1 .0, h ∙ ap (λ (m : ℕ). chosenFrom terms (take m o)) (w .1 .1) ∙ targets-are xs b n terms (w .0) (w .1 .0) i)

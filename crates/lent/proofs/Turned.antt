@@ -43,7 +43,8 @@ use Rattle.circuit.specs.declared.input.Running.{Running}
 use Rattle.circuit.specs.declared.input.Heard.{Heard}
 use Rattle.circuit.specs.declared.input.Heard.the-variants as heard
 use Rattle.circuit.specs.Decisions.{silence, eventOf, resetOf, sendingOf, decidedOf, quietOf, refusedOf}
-use Rattle.circuit.specs.State.{inPhase, doneOf}
+use Rattle.candidates.specs.declared.Terms.{Terms}
+use Rattle.circuit.specs.State.{termsOf, inPhase, doneOf}
 use Rattle.circuit.specs.Refusals.{checkOf}
 use Rattle.circuit.specs.Rounds.{isLive, noRound, openStream, openRound, failRound}
 use Rattle.circuit.specs.Ticks.{tickHandshaking, resetAtEnd, stopped, tickExchange, dueBurst, tickPunching, tickAt}
@@ -182,11 +183,11 @@ plain : (c : Core) (why : Refusal) → opens (refusedOf c why .fourth) ≡ false
 unfolding refusedOf opens
 plain c why = refl
 
-framed-whole : (c : Core) (own : List ℕ) (d : Decision) → Whole c d → Whole c (framedBy own d)
+framed-whole : (c : Core) (t : Terms) (own : List ℕ) (d : Decision) → Whole c d → Whole c (framedBy t own d)
 unfolding framedBy
-framed-whole c own d w = go (opens (d .fourth)) refl
+framed-whole c t own d w = go (opens (d .fourth)) refl
   where
-    go : (v : Bool) → opens (d .fourth) ≡ v → Whole c (pick v (withCore d (withConnect (d .core) (ownConnect own .len))) d)
+    go : (v : Bool) → opens (d .fourth) ≡ v → Whole c (pick v (withCore d (withConnect (d .core) (ownConnect (t .limits) own .len))) d)
     go true o why e =
         absurd (let f : d ≡ refusedOf c why = w why e in
         let g : _≡_ {A = Bool} true false = sym o ∙ ap (λ (z : Decision). opens (z .fourth)) f ∙ plain c why in let z : _≡_ {A = ℕ} 0 1 = cc in omega arith)
@@ -195,14 +196,14 @@ framed-whole c own d w = go (opens (d .fourth)) refl
 pub up-whole : (c : Core) (h : Host) (own : List ℕ) (peer : PeerId) (conn : ConnectionId) (relayed : Bool) → Whole c (upOf c h own peer conn relayed)
 unfolding upOf upIn
 up-whole c h own peer conn relayed =
-    framed-whole c own (unless c (upAt c h peer conn relayed) (checkOf (c .phase) (h .offer) own))
+    framed-whole c (termsOf (c .settings)) own (unless c (upAt c h peer conn relayed) (checkOf (c .phase) (h .offer) own))
     (unless-whole c (upAt c h peer conn relayed) (checkOf (c .phase) (h .offer) own)
     (accepted-whole c (upAt c h peer conn relayed) (up-accepts c h peer conn relayed)))
 
 pub tick-whole : (c : Core) (h : Host) (own : List ℕ) → Whole c (tickOf c h own)
 unfolding tickOf tickIn
 tick-whole c h own =
-    framed-whole c own (unless c (tickAt c h (c .phase)) (checkOf (c .phase) (h .offer) own))
+    framed-whole c (termsOf (c .settings)) own (unless c (tickAt c h (c .phase)) (checkOf (c .phase) (h .offer) own))
     (unless-whole c (tickAt c h (c .phase)) (checkOf (c .phase) (h .offer) own) (accepted-whole c (tickAt c h (c .phase)) (tick-accepts c h (c .phase))))
 
 -- ---- an input
@@ -264,7 +265,7 @@ module _ (c : Core) (h : Host) (n : ℕ) (full : Bool) where
 pub input-whole : (c : Core) (full : Bool) (h : Host) (own buffer : List ℕ) (stream : StreamId) (k : StreamInput) (bytes : List ℕ) (pending : Bool)
     → Whole c (inputOf c full h own buffer stream k bytes pending)
 unfolding inputOf inputIn hearing
-input-whole c full h own buffer stream k bytes pending = framed-whole c own (pick (ltb (length buffer) maxFrameSize) (refusedOf c ReplyBufferTooShort) (unless c d (checkOf (c .phase) (h .offer) own)))
+input-whole c full h own buffer stream k bytes pending = framed-whole c (termsOf (c .settings)) own (pick (ltb (length buffer) maxFrameSize) (refusedOf c ReplyBufferTooShort) (unless c d (checkOf (c .phase) (h .offer) own)))
     (go (ltb (length buffer) maxFrameSize))
   where
     d : Decision

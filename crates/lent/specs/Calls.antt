@@ -19,6 +19,7 @@ use Rattle.circuit.specs.declared.state.Core.{Core}
 use Rattle.circuit.specs.declared.decision.Decision.{Decision}
 use Rattle.circuit.specs.Calls.{unless}
 use Rattle.lent.specs.declared.reply.Peeked.{Peeked}
+use Rattle.circuit.specs.State.{termsOf}
 use Rattle.circuit.specs.Decisions.{refusedOf}
 use Rattle.circuit.specs.Refusals.{checkOf}
 use Rattle.circuit.specs.Ticks.{tickAt}
@@ -35,17 +36,17 @@ upIn c h own peer conn relayed = unless c (upAt c h peer conn relayed) (checkOf 
 
 -- a round that opens has its CONNECT
 unfoldable pub upOf : Core → Host → List ℕ → PeerId → ConnectionId → Bool → Decision
-upOf c h own peer conn relayed = framedBy own (upIn c h own peer conn relayed)
+upOf c h own peer conn relayed = framedBy (termsOf (c .settings)) own (upIn c h own peer conn relayed)
 
 unfoldable pub tickIn : Core → Host → List ℕ → Decision
 tickIn c h own = unless c (tickAt c h (c .phase)) (checkOf (c .phase) (h .offer) own)
 
 unfoldable pub tickOf : Core → Host → List ℕ → Decision
-tickOf c h own = framedBy own (tickIn c h own)
+tickOf c h own = framedBy (termsOf (c .settings)) own (tickIn c h own)
 
 -- what the bytes bring behind those that the reply buffer has
 abbrev pub peeked : Core → List ℕ → List ℕ → Peeked
-peeked c buffer bytes = peekedOf (c .settings .private) (broughtBy bytes buffer (frameBytes (c .phase)))
+peeked c buffer bytes = peekedOf (termsOf (c .settings)) (broughtBy bytes buffer (frameBytes (c .phase)))
 
 -- the ledger may have no room for the source's window
 unfoldable pub hearing : Core → (full : Bool) → Host → (buffer : List ℕ) → StreamId → StreamInput → (bytes : List ℕ) → (pending : Bool) → Decision
@@ -59,7 +60,7 @@ inputIn c full h own buffer stream kind bytes pending =
     (unless c (hearing c full h buffer stream kind bytes pending) (checkOf (c .phase) (h .offer) own))
 
 unfoldable pub inputOf : Core → (full : Bool) → Host → (own buffer : List ℕ) → StreamId → StreamInput → (bytes : List ℕ) → (pending : Bool) → Decision
-inputOf c full h own buffer stream kind bytes pending = framedBy own (inputIn c full h own buffer stream kind bytes pending)
+inputOf c full h own buffer stream kind bytes pending = framedBy (termsOf (c .settings)) own (inputIn c full h own buffer stream kind bytes pending)
 
 abbrev pub isAccepted : Outcome → Bool
 isAccepted Accepted = true

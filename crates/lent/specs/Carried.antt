@@ -6,6 +6,7 @@ use Rattle.prelude.specs.Choice.{pick}
 use Rattle.ids.specs.declared.PeerId.{PeerId}
 use Rattle.candidates.specs.declared.Chosen.{Chosen}
 use Rattle.candidates.specs.Selection as chosen
+use Rattle.candidates.specs.declared.Terms.{Terms}
 use Rattle.frames.specs.declared.Framed.{Framed}
 use Rattle.frames.specs.Sent.{packed, syncFrame, ownConnect}
 use Rattle.ledger.specs.Ledger.{PathLedger, endPunches, expectPunches}
@@ -47,8 +48,8 @@ opens (Reset conn stream) = false
 opens (Open conn stream) = true
 
 -- a round that opens gets the CONNECT with the candidates of the own list
-unfoldable pub connectAfter : List ℕ → List ℕ → Effect → List ℕ
-connectAfter own connect fourth = pick (opens fourth) (ownConnect own .bytes) connect
+unfoldable pub connectAfter : Terms → List ℕ → List ℕ → Effect → List ℕ
+connectAfter t own connect fourth = pick (opens fourth) (ownConnect (t .limits) own .bytes) connect
 
 abbrev pub withConnect : Core → ℕ → Core
 withConnect c n =
@@ -77,8 +78,8 @@ withCore d c =
       message = d .message;
     }
 
-unfoldable pub framedBy : List ℕ → Decision → Decision
-framedBy own d = pick (opens (d .fourth)) (withCore d (withConnect (d .core) (ownConnect own .len))) d
+unfoldable pub framedBy : Terms → List ℕ → Decision → Decision
+framedBy t own d = pick (opens (d .fourth)) (withCore d (withConnect (d .core) (ownConnect (t .limits) own .len))) d
 
 -- a window that opens takes the reply's targets
 unfoldable pub targetsAfter : List ℕ → Chosen → Fate → List ℕ

@@ -9,6 +9,7 @@ use circuit::decision::Decision;
 use circuit::input;
 use circuit::input::Heard;
 use circuit::refusals;
+use circuit::state;
 use circuit::state::Core;
 use circuit::tick;
 use circuit::up;
@@ -25,6 +26,7 @@ ghost use mathlib.Core.Path.{_≡_};
 ghost use Rattle.prelude.specs.Choice.{pick};
 ghost use Rattle.frames.specs.Gathering.{gatheredInto};
 ghost use Rattle.ledger.specs.Ledger.{tablesOf, laid, refusesPunches};
+ghost use Rattle.circuit.specs.State.{termsOf};
 ghost use Rattle.circuit.specs.Inputs.{frameBytes};
 ghost use Rattle.lent.specs.Carried.{sentAfter, ledgerAfter, connectAfter, targetsAfter, noFrame, noAims};
 ghost use Rattle.lent.specs.Calls.{upIn, upOf, tickIn, tickOf, peeked, hearing, inputIn, inputOf, isAccepted, bufferAfter};
@@ -66,10 +68,10 @@ fn hear(
     ensures buffer { λ r. ⌜ now (buffer .exit) ≡ pick (isAccepted (hearing c (refusesPunches (tablesOf (now (ledger .entry))) (c .source)) host (now (buffer .entry)) stream input (now (bytes .entry)) pending .outcome)) (gatheredInto (now (bytes .entry)) (now (buffer .entry)) (frameBytes (c .phase))) (now (buffer .entry)) ⌝ }
 {
     let source = c.source;
-    let settings = c.settings;
     let phase = c.phase;
     let count = input::frame_bytes(phase);
-    let peeked = reply::peek_data(bytes, buffer, count, settings.private);
+    let terms = state::terms(c.settings);
+    let peeked = reply::peek_data(bytes, buffer, count, terms);
     let heard = peeked.heard;
     let chosen = peeked.targets;
     let full = ledger::refuses_punches(ledger, source);
@@ -193,14 +195,15 @@ pub fn on_connection_established(
     relayed: bool,
 ) -> Decision
     ensures answer { λ r. ⌜ r ≡ upOf c host (now (own .entry)) peer conn relayed ⌝ }
-    ensures connect { λ r. ⌜ now (connect .exit) ≡ connectAfter (now (own .entry)) (now (connect .entry)) (upOf c host (now (own .entry)) peer conn relayed .fourth) ⌝ }
+    ensures connect { λ r. ⌜ now (connect .exit) ≡ connectAfter (termsOf (c .settings)) (now (own .entry)) (now (connect .entry)) (upOf c host (now (own .entry)) peer conn relayed .fourth) ⌝ }
     ensures sent { λ r. ⌜ now (sent .exit) ≡ sentAfter (now (connect .entry)) (now (sent .entry)) (upOf c host (now (own .entry)) peer conn relayed .message) ⌝ }
     ensures tables { λ r. ⌜ tablesOf (now (ledger .exit)) ≡ ledgerAfter (c .source) (tablesOf (now (ledger .entry))) (upOf c host (now (own .entry)) peer conn relayed .window) ⌝ }
     ensures words { λ r. ⌜ now (ledger .exit) ≡ laid (ledgerAfter (c .source) (tablesOf (now (ledger .entry))) (upOf c host (now (own .entry)) peer conn relayed .window)) (now (ledger .entry)) ⌝ }
 {
     let source = c.source;
     let d = up_in(c, host, own, peer, conn, relayed);
-    carried::carry_out(d, source, own, connect, sent, ledger)
+    let terms = state::terms(c.settings);
+    carried::carry_out(d, source, terms, own, connect, sent, ledger)
 }
 
 pub fn on_tick(
@@ -212,14 +215,15 @@ pub fn on_tick(
     own: &[u8],
 ) -> Decision
     ensures answer { λ r. ⌜ r ≡ tickOf c host (now (own .entry)) ⌝ }
-    ensures connect { λ r. ⌜ now (connect .exit) ≡ connectAfter (now (own .entry)) (now (connect .entry)) (tickOf c host (now (own .entry)) .fourth) ⌝ }
+    ensures connect { λ r. ⌜ now (connect .exit) ≡ connectAfter (termsOf (c .settings)) (now (own .entry)) (now (connect .entry)) (tickOf c host (now (own .entry)) .fourth) ⌝ }
     ensures sent { λ r. ⌜ now (sent .exit) ≡ sentAfter (now (connect .entry)) (now (sent .entry)) (tickOf c host (now (own .entry)) .message) ⌝ }
     ensures tables { λ r. ⌜ tablesOf (now (ledger .exit)) ≡ ledgerAfter (c .source) (tablesOf (now (ledger .entry))) (tickOf c host (now (own .entry)) .window) ⌝ }
     ensures words { λ r. ⌜ now (ledger .exit) ≡ laid (ledgerAfter (c .source) (tablesOf (now (ledger .entry))) (tickOf c host (now (own .entry)) .window)) (now (ledger .entry)) ⌝ }
 {
     let source = c.source;
     let d = tick_in(c, host, own);
-    carried::carry_out(d, source, own, connect, sent, ledger)
+    let terms = state::terms(c.settings);
+    carried::carry_out(d, source, terms, own, connect, sent, ledger)
 }
 
 pub fn on_dcutr_stream_input(
@@ -237,7 +241,7 @@ pub fn on_dcutr_stream_input(
     pending: bool,
 ) -> Decision
     ensures answer { λ r. ⌜ r ≡ inputOf c (refusesPunches (tablesOf (now (ledger .entry))) (c .source)) host (now (own .entry)) (now (buffer .entry)) stream input (now (bytes .entry)) pending ⌝ }
-    ensures connect { λ r. ⌜ now (connect .exit) ≡ connectAfter (now (own .entry)) (now (connect .entry)) (inputOf c (refusesPunches (tablesOf (now (ledger .entry))) (c .source)) host (now (own .entry)) (now (buffer .entry)) stream input (now (bytes .entry)) pending .fourth) ⌝ }
+    ensures connect { λ r. ⌜ now (connect .exit) ≡ connectAfter (termsOf (c .settings)) (now (own .entry)) (now (connect .entry)) (inputOf c (refusesPunches (tablesOf (now (ledger .entry))) (c .source)) host (now (own .entry)) (now (buffer .entry)) stream input (now (bytes .entry)) pending .fourth) ⌝ }
     ensures targets { λ r. ⌜ now (targets .exit) ≡ targetsAfter (now (targets .entry)) (peeked c (now (buffer .entry)) (now (bytes .entry)) .targets) (inputOf c (refusesPunches (tablesOf (now (ledger .entry))) (c .source)) host (now (own .entry)) (now (buffer .entry)) stream input (now (bytes .entry)) pending .window) ⌝ }
     ensures sent { λ r. ⌜ now (sent .exit) ≡ sentAfter (now (connect .entry)) (now (sent .entry)) (inputOf c (refusesPunches (tablesOf (now (ledger .entry))) (c .source)) host (now (own .entry)) (now (buffer .entry)) stream input (now (bytes .entry)) pending .message) ⌝ }
     ensures tables { λ r. ⌜ tablesOf (now (ledger .exit)) ≡ ledgerAfter (c .source) (tablesOf (now (ledger .entry))) (inputOf c (refusesPunches (tablesOf (now (ledger .entry))) (c .source)) host (now (own .entry)) (now (buffer .entry)) stream input (now (bytes .entry)) pending .window) ⌝ }
@@ -257,5 +261,6 @@ pub fn on_dcutr_stream_input(
         bytes,
         pending,
     );
-    carried::carry_out(d, source, own, connect, sent, ledger)
+    let terms = state::terms(c.settings);
+    carried::carry_out(d, source, terms, own, connect, sent, ledger)
 }

@@ -2,6 +2,7 @@
 // the targets of a window that opens.
 use crate::TargetBytes;
 use candidates::Chosen;
+use candidates::Terms;
 use circuit::decision::Decision;
 use circuit::decision::Fate;
 use circuit::decision::Message;
@@ -69,13 +70,13 @@ fn is_open(effect: Effect) -> bool
 }
 
 // Where a round opens its CONNECT is written: the candidates of the own list.
-fn write_connect(d: Decision, own: &[u8], connect: &mut FrameBytes) -> Decision
-    ensures answer { λ r. ⌜ r ≡ framedBy (now (own .entry)) d ⌝ }
-    ensures connect { λ r. ⌜ now (connect .exit) ≡ connectAfter (now (own .entry)) (now (connect .entry)) (d .fourth) ⌝ }
+fn write_connect(d: Decision, terms: Terms, own: &[u8], connect: &mut FrameBytes) -> Decision
+    ensures answer { λ r. ⌜ r ≡ framedBy terms (now (own .entry)) d ⌝ }
+    ensures connect { λ r. ⌜ now (connect .exit) ≡ connectAfter terms (now (own .entry)) (now (connect .entry)) (d .fourth) ⌝ }
 {
     let fourth = d.fourth;
     if is_open(fourth) {
-        let framed = frames::own_connect(own);
+        let framed = frames::own_connect(own, terms.limits);
         let bytes = framed.bytes;
         copy_frame(&bytes, connect);
         let core = d.core;
@@ -92,13 +93,14 @@ fn write_connect(d: Decision, own: &[u8], connect: &mut FrameBytes) -> Decision
 pub fn carry_out(
     d: Decision,
     source: PeerId,
+    terms: Terms,
     own: &[u8],
     connect: &mut FrameBytes,
     sent: &mut FrameBytes,
     ledger: &mut Ledger,
 ) -> Decision
-    ensures answer { λ r. ⌜ r ≡ framedBy (now (own .entry)) d ⌝ }
-    ensures connect { λ r. ⌜ now (connect .exit) ≡ connectAfter (now (own .entry)) (now (connect .entry)) (d .fourth) ⌝ }
+    ensures answer { λ r. ⌜ r ≡ framedBy terms (now (own .entry)) d ⌝ }
+    ensures connect { λ r. ⌜ now (connect .exit) ≡ connectAfter terms (now (own .entry)) (now (connect .entry)) (d .fourth) ⌝ }
     ensures sent { λ r. ⌜ now (sent .exit) ≡ sentAfter (now (connect .entry)) (now (sent .entry)) (d .message) ⌝ }
     ensures tables { λ r. ⌜ tablesOf (now (ledger .exit)) ≡ ledgerAfter source (tablesOf (now (ledger .entry))) (d .window) ⌝ }
     ensures words { λ r. ⌜ now (ledger .exit) ≡ laid (ledgerAfter source (tablesOf (now (ledger .entry))) (d .window)) (now (ledger .entry)) ⌝ }
@@ -107,7 +109,7 @@ pub fn carry_out(
     let window = d.window;
     send(message, connect, sent);
     settle_window(ledger, source, window);
-    write_connect(d, own, connect)
+    write_connect(d, terms, own, connect)
 }
 
 fn targets_known(targets: &TargetBytes)

@@ -1,5 +1,6 @@
 // What an input's bytes bring of the reply, read before one of them is stored: a call that needs a 65th row can still be turned back.
 use candidates::Chosen;
+use candidates::Terms;
 use circuit::input::Heard;
 use initiator::Reply;
 ghost use mathlib.Core.Path.{_≡_};
@@ -22,17 +23,17 @@ fn no_list() -> AddressBytes
 }
 
 // The targets among the addresses of a reply.
-fn targets_from(list: &[u8], private: bool) -> Chosen
-    ensures { λ r. ⌜ r ≡ chosenFrom private (now (list .entry)) ⌝ }
+fn targets_from(list: &[u8], terms: Terms) -> Chosen
+    ensures { λ r. ⌜ r ≡ chosenFrom terms (now (list .entry)) ⌝ }
 {
-    let selection = candidates::select_punch_candidates(list, private);
+    let selection = candidates::select_punch_candidates(list, terms);
     let chosen = selection.chosen;
     chosen
 }
 
 // The bytes behind the first `count` of the buffer, which stays as it is.
-pub fn peek_data(bytes: &[u8], buffer: &[u8], count: usize, private: bool) -> Peeked
-    ensures { λ r. ⌜ r ≡ peekedOf private (broughtBy (now (bytes .entry)) (now (buffer .entry)) count) ⌝ }
+pub fn peek_data(bytes: &[u8], buffer: &[u8], count: usize, terms: Terms) -> Peeked
+    ensures { λ r. ⌜ r ≡ peekedOf terms (broughtBy (now (bytes .entry)) (now (buffer .entry)) count) ⌝ }
 {
     let mut list = no_list();
     let reply = initiator::peek_reply(bytes, buffer, count, &mut list);
@@ -52,7 +53,7 @@ pub fn peek_data(bytes: &[u8], buffer: &[u8], count: usize, private: bool) -> Pe
             };
         }
         Reply::Connect { size } => {
-            let targets = targets_from(&list[..size], private);
+            let targets = targets_from(&list[..size], terms);
             return Peeked {
                 heard: Heard::Connect,
                 targets: targets,

@@ -6,7 +6,7 @@ use Prim.Native.Nat.{ℕ, _/_, _%_}
 use lib.ListN.{replicate}
 use Rattle.wire.specs.Frame.{frameOf}
 use Rattle.wire.specs.declared.Frame.the-variants.{Whole, Broken}
-use Rattle.candidates.specs.Selection.{usual, selected}
+use Rattle.candidates.specs.Selection.{usually, selected}
 use Rattle.schedule.specs.Instants.{halfOf, startOf, instants}
 use Rattle.schedule.specs.Schedule.{dueOf}
 use Rattle.schedule.specs.declared.BlastSchedule.the-variants.{Next, Over}
@@ -17,7 +17,7 @@ address4 a b c d port = 0x04 ∷ a ∷ b ∷ c ∷ d ∷ 0x91 ∷ 0x02 ∷ (port
 
 -- the targets among some addresses, private targets off
 abbrev pub targets : List (List ℕ) → List (List ℕ)
-targets = selected usual false
+targets = selected (usually false)
 
 -- one IP at three ports, the last of which meets the limit of two
 abbrev pub threePorts : List (List ℕ)

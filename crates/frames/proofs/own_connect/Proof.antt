@@ -16,16 +16,16 @@ empty-requires : tie.Need-empty-requires
 empty-requires c κs = search needs
 
 returns : tie.Need-returns
-returns c = own-broken (now (c .before .before .before .before .before .args .list)) (c .before .before .before .own-punch-candidates .ensures) (c .before .enum-told .given .1) (c .empty .ensures)
+returns c = own-broken (c .before .before .before .before .before .args .limits) (now (c .before .before .before .before .before .args .list)) (c .before .before .before .own-punch-candidates .ensures) (c .before .enum-told .given .1) (c .empty .ensures)
 
 enum-told-2 : tie.Need-enum-told-2
 enum-told-2 c = search needs
 
 connect-of-requires : tie.Need-connect-of-requires
-connect-of-requires c κs = own-within (now (c .before .before .before .before .before .args .list)) (c .before .before .before .own-punch-candidates .ensures) (c .before .enum-told2 .given .1)
+connect-of-requires c κs = own-within (c .before .before .before .before .before .args .limits) (now (c .before .before .before .before .before .args .list)) (c .before .before .before .own-punch-candidates .ensures) (c .before .enum-told2 .given .1)
 
 returns-2 : tie.Need-returns-2
-returns-2 c = own-kept (now (c .before .before .before .before .before .before .args .list)) (c .before .before .before .before .own-punch-candidates .ensures) (c .before .before .enum-told2 .given .1) (c .connect-of .ensures)
+returns-2 c = own-kept (c .before .before .before .before .before .before .args .limits) (now (c .before .before .before .before .before .before .args .list)) (c .before .before .before .before .own-punch-candidates .ensures) (c .before .before .enum-told2 .given .1) (c .connect-of .ensures)
 
 pub own-connect-spec : {M : Type 1} → statement M
 own-connect-spec = tie.close (tie.spec own-punch-candidates-requires enum-told empty-requires returns enum-told-2 connect-of-requires returns-2)

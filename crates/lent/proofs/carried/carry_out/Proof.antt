@@ -1,7 +1,4 @@
-use Rattle.lent.specs.Carried.{connectAfter}
-use Rattle.lent.specs.Carried.{sentAfter}
-use Rattle.lent.specs.Carried.{framedBy}
-use Rattle.lent.specs.Carried.{ledgerAfter}
+use Rattle.lent.specs.Carried.{connectAfter, sentAfter, framedBy, ledgerAfter}
 use borrow.Author.Needs.{needs}
 use Rattle.lent.proofs.carried.carry_out.Statement.{statement}
 use Rattle.lent.proofs.carried.carry_out.Tie as tie

@@ -1,9 +1,7 @@
-use mathlib.Core.Path.{_∙_}
+use mathlib.Core.Path.{_∙_, sym}
 use denote.Ref.{now}
 use Rattle.lent.proofs.Carries.{connect-written, connect-stays}
-use Rattle.lent.specs.Carried.{framedBy}
-use Rattle.lent.specs.Carried.{connectAfter}
-use mathlib.Core.Path.{sym}
+use Rattle.lent.specs.Carried.{framedBy, connectAfter}
 use borrow.Author.Needs.{needs}
 use Rattle.lent.proofs.carried.write_connect.Statement.{statement}
 use Rattle.lent.proofs.carried.write_connect.Tie as tie
@@ -19,11 +17,11 @@ copy-frame-requires c κs = search needs
 
 returns : tie.Need-returns
 unfolding connectAfter framedBy
-returns c = connect-written (now (c .before .before .before .before .before .before .before .before .before .before .before .before .before .before .args .own)) (now (c .before .before .before .before .before .before .before .before .before .before .before .before .before .before .args .connect)) (c .before .before .before .before .before .before .before .before .before .before .before .before .before .before .args .d) (sym (c .before .before .before .before .before .before .before .before .before .before .before .before .is-open .ensures) ∙ c .before .before .before .before .before .before .before .before .before .before .before .if1 .taken) (c .before .before .before .before .before .before .before .before .before .before .own-connect .ensures) (c .before .before .before .before .before .before .copy-frame .ensures)
+returns c = connect-written (c .before .before .before .before .before .before .before .before .before .before .before .before .before .before .args .terms) (now (c .before .before .before .before .before .before .before .before .before .before .before .before .before .before .args .own)) (now (c .before .before .before .before .before .before .before .before .before .before .before .before .before .before .args .connect)) (c .before .before .before .before .before .before .before .before .before .before .before .before .before .before .args .d) (sym (c .before .before .before .before .before .before .before .before .before .before .before .before .is-open .ensures) ∙ c .before .before .before .before .before .before .before .before .before .before .before .if1 .taken) (c .before .before .before .before .before .before .before .before .before .before .own-connect .ensures) (c .before .before .before .before .before .before .copy-frame .ensures)
 
 returns-2 : tie.Need-returns-2
 unfolding connectAfter framedBy
-returns-2 c = connect-stays (now (c .before .before .before .args .own)) (now (c .before .before .before .args .connect)) (c .before .before .before .args .d) (sym (c .before .is-open .ensures) ∙ c .if1 .left)
+returns-2 c = connect-stays (c .before .before .before .args .terms) (now (c .before .before .before .args .own)) (now (c .before .before .before .args .connect)) (c .before .before .before .args .d) (sym (c .before .is-open .ensures) ∙ c .if1 .left)
 
 pub write-connect-spec : {M : Type 1} → statement M
 write-connect-spec =
