@@ -4,11 +4,12 @@ use mathlib.Core.List.{_++_}
 use mathlib.Core.Bool.{Bool}
 use Prim.Native.Nat.{ℕ}
 use lib.Dec.{ltb}
+use Rattle.prelude.specs.Choice.{bit}
 use Rattle.text.specs.Words.{ascii}
 use Rattle.text.specs.Decimal.{decimal}
 use Rattle.budget.specs.Budget.{maxRounds, nextDeadline}
 use Rattle.budget.specs.declared.UpgradeBudget.{UpgradeBudget}
-use Rattle.budget_calls.specs.Answers.{bit, stateText, saidText}
+use Rattle.budget_calls.specs.Answers.{stateText, saidText}
 use Rattle.budget_calls.specs.declared.Said.{Said}
 use Rattle.budget_calls.specs.declared.Said.the-variants.{Began}
 

@@ -1,9 +1,8 @@
 -- What is printed of a call (README.md), a line feed at its end.
 use Prim.Native.Nat.{ℕ}
 use mathlib.Core.List.{List, _++_}
-use mathlib.Core.Bool.{Bool}
 use lib.Dec.{ltb}
-use Rattle.prelude.specs.Choice.{pick}
+use Rattle.prelude.specs.Choice.{bit}
 use Rattle.text.specs.Words.{ascii}
 use Rattle.text.specs.Decimal.{decimal}
 use Rattle.budget.specs.Budget.{maxRounds, nextDeadline}
@@ -12,10 +11,6 @@ use Rattle.budget.specs.declared.UpgradeStop.{UpgradeStop}
 use Rattle.budget.specs.declared.UpgradeStop.the-variants.{None, ExchangeTimeout, UpgradeTimeout}
 use Rattle.budget_calls.specs.declared.Said.{Said}
 use Rattle.budget_calls.specs.declared.Said.the-variants.{State, Began, WindowEnd, Stop, Bad}
-
--- 1 for yes, 0 for no
-abbrev pub bit : Bool → ℕ
-bit v = pick v 1 0
 
 unfoldable pub stateText : UpgradeBudget → List ℕ
 stateText b =

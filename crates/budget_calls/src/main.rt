@@ -2,10 +2,11 @@
 ghost use mathlib.Core.Path.{_≡_};
 ghost use Prim.Native.Nat.{_≤_};
 ghost use lib.ListN.{length};
+ghost use Rattle.prelude.specs.Choice.{bit};
 ghost use Rattle.text.specs.Printed.{printed, behind};
 ghost use Rattle.budget_calls.specs.Calls.{armCall, beginCall, windowCall, dueCall, callOf, lineCall};
 ghost use Rattle.budget_calls.specs.Turns.{standing, saying, turnUnarmed, turnArmed, turnOf};
-ghost use Rattle.budget_calls.specs.Answers.{bit, stateText, dueText, saidText};
+ghost use Rattle.budget_calls.specs.Answers.{stateText, dueText, saidText};
 use budget::UpgradeBudget;
 use budget::UpgradeStop;
 use fields::NumberField;

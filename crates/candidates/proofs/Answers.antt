@@ -8,7 +8,7 @@ use native.Mathlib.Omega.{arith}
 use native.Mathlib.Nat.{add-zero}
 use borrow.Author.Tests.{eqb-true, eq-eqb, leb-true, le-leb, lt-leb}
 use lib.Dec.{eqb, leb}
-use Rattle.prelude.specs.Choice.{pick, both, no}
+use Rattle.prelude.specs.Choice.{pick, both, no, bit}
 use Rattle.refusal.specs.declared.Refusal.the-variants.{BrokenList}
 use Rattle.vocabulary.specs.declared.Outcome.the-variants.{Accepted, Refused}
 use Rattle.wire.specs.Lists.{broken, listed}
@@ -17,7 +17,7 @@ use Rattle.address.specs.Words.{mayBeTarget}
 use Rattle.address.specs.declared.Ip.{Ip}
 use Rattle.address.specs.declared.Parsed.{Parsed}
 use Rattle.address.specs.declared.Parsed.the-variants.{Address, Other}
-use Rattle.candidates.specs.Entries.{bit, sameFamily, sameIp, sameBytes, contains}
+use Rattle.candidates.specs.Entries.{sameFamily, sameIp, sameBytes, contains}
 use Rattle.candidates.specs.Selection.{most, held, counted, roomFor, packed, answered}
 use Rattle.candidates.specs.OnePass.{tallied, suits, wantedFrom}
 use Rattle.candidates.specs.declared.Source.{Source}

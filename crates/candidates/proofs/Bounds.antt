@@ -8,13 +8,14 @@ use native.Mathlib.Omega.{arith}
 use borrow.Author.Tests.{ltb-true, leb-true, eqb-true}
 use lib.Dec.{ltb, leb, eqb}
 use lib.ListN.{length}
-use Rattle.prelude.specs.Choice.{pick, both}
+use Rattle.prelude.specs.Lists.{count}
+use Rattle.prelude.specs.Choice.{pick, both, bit}
 use Rattle.address.specs.Multiaddr.{parsed}
 use Rattle.address.specs.declared.Ip.{Ip}
 use Rattle.address.specs.declared.Ip.the-variants.{V4, V6}
 use Rattle.address.specs.declared.Parsed.{Parsed}
 use Rattle.address.specs.declared.Parsed.the-variants.{Address, Other}
-use Rattle.candidates.specs.Entries.{bit, count, sameFamily, sameIp, ofParsed, ofAddress, inFamily, hasIp}
+use Rattle.candidates.specs.Entries.{sameFamily, sameIp, ofParsed, ofAddress, inFamily, hasIp}
 use Rattle.candidates.specs.Selection.{counted, roomFor, room, keep, bounded}
 use Rattle.candidates.specs.declared.Limits.{Limits}
 use Rattle.candidates.proofs.Keeping.{both-true}

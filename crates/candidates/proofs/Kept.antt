@@ -5,9 +5,10 @@ use mathlib.Core.Bool.{Bool, true, false}
 use mathlib.Core.List.{List, [], _∷_, _++_, append-assoc, append-nil, foldl}
 use Prim.Native.Nat.{ℕ, _+_, _≤_}
 use native.Mathlib.Omega.{arith}
-use Rattle.prelude.specs.Choice.{pick}
+use Rattle.prelude.specs.Lists.{count, such}
+use Rattle.prelude.specs.Choice.{pick, bit}
 use Rattle.wire.proofs.Listed.{All}
-use Rattle.candidates.specs.Entries.{bit, count, only, sameBytes, contains}
+use Rattle.candidates.specs.Entries.{sameBytes, contains}
 use Rattle.candidates.specs.Selection.{room, keep, bounded, unlessThere, once}
 use Rattle.candidates.specs.Laws.{AllPass, Sublist, nil, skip, keep as stay}
 use Rattle.candidates.specs.declared.Limits.{Limits}
@@ -20,12 +21,12 @@ unfolding count
 all-pass p [] h = refl
 all-pass p (a ∷ xs) h = let r = all-pass p xs (h .1) in omega (arith, ap bit (h .0))
 
-pub all-only : (p : List ℕ → Bool) (xs : List (List ℕ)) → All (λ a. p a ≡ true) (only p xs)
-unfolding only
+pub all-only : (p : List ℕ → Bool) (xs : List (List ℕ)) → All (λ a. p a ≡ true) (such p xs)
+unfolding such
 all-only p [] = tt
 all-only p (a ∷ xs) = by-test (p a) refl (all-only p xs)
   where
-    by-test : (t : Bool) → p a ≡ t → All (λ a. p a ≡ true) (only p xs) → All (λ a. p a ≡ true) (pick t (a ∷ only p xs) (only p xs))
+    by-test : (t : Bool) → p a ≡ t → All (λ a. p a ≡ true) (such p xs) → All (λ a. p a ≡ true) (pick t (a ∷ such p xs) (such p xs))
     by-test true e h = (e, h)
     by-test false e h = h
 
@@ -58,12 +59,12 @@ sub-all P nil h = tt
 sub-all P (skip s) h = sub-all P s (h .1)
 sub-all P (stay s) h = (h .0, sub-all P s (h .1))
 
-pub sub-only : (p : List ℕ → Bool) (xs : List (List ℕ)) → Sublist (only p xs) xs
-unfolding only
+pub sub-only : (p : List ℕ → Bool) (xs : List (List ℕ)) → Sublist (such p xs) xs
+unfolding such
 sub-only p [] = nil
 sub-only p (a ∷ xs) = by-test (p a) (sub-only p xs)
   where
-    by-test : (t : Bool) → Sublist (only p xs) xs → Sublist (pick t (a ∷ only p xs) (only p xs)) (a ∷ xs)
+    by-test : (t : Bool) → Sublist (such p xs) xs → Sublist (pick t (a ∷ such p xs) (such p xs)) (a ∷ xs)
     by-test true s = stay s
     by-test false s = skip s
 
@@ -173,15 +174,15 @@ sub-lacks a (stay {a = b} {xs = xs} {ys = ys} s) h = by-test (sameBytes a b) h (
     by-test true e f = let z : _≡_ {A = ℕ} 0 1 = cc in absurd (omega arith)
     by-test false e f = f e
 
-pub only-append : (p : List ℕ → Bool) (xs ys : List (List ℕ)) → only p (xs ++ ys) ≡ only p xs ++ only p ys
-unfolding only
+pub only-append : (p : List ℕ → Bool) (xs ys : List (List ℕ)) → such p (xs ++ ys) ≡ such p xs ++ such p ys
+unfolding such
 only-append p [] ys = refl
 only-append p (x ∷ xs) ys = by-test (p x) (only-append p xs ys)
   where
-    by-test : (t : Bool) → only p (xs ++ ys) ≡ only p xs ++ only p ys → pick t (x ∷ only p (xs ++ ys)) (only p (xs ++ ys)) ≡ pick t (x ∷ only p xs) (only p xs) ++ only p ys
+    by-test : (t : Bool) → such p (xs ++ ys) ≡ such p xs ++ such p ys → pick t (x ∷ such p (xs ++ ys)) (such p (xs ++ ys)) ≡ pick t (x ∷ such p xs) (such p xs) ++ such p ys
     by-test true h = ap (λ (l : List (List ℕ)). x ∷ l) h
     by-test false h = h
 
-pub only-here : (p : List ℕ → Bool) (a : List ℕ) (xs : List (List ℕ)) → p a ≡ true → only p (a ∷ xs) ≡ a ∷ only p xs
-unfolding only
+pub only-here : (p : List ℕ → Bool) (a : List ℕ) (xs : List (List ℕ)) → p a ≡ true → such p (a ∷ xs) ≡ a ∷ such p xs
+unfolding such
 only-here p a xs e = rw e

@@ -7,10 +7,12 @@ use Prim.Native.Nat.{ℕ, suc, _+_, _-_, _≤_}
 use native.Mathlib.Omega.{arith}
 use native.Mathlib.Nat.{zero-add}
 use lib.ListN.{length, take, drop}
+use Rattle.prelude.specs.Lists.{count}
+use Rattle.prelude.specs.Choice.{bit}
 use Rattle.address.specs.declared.Ip.{Ip}
 use Rattle.wire.specs.Lists.{entries}
 use Rattle.wire.proofs.Entries.{AddressAt, entries-address}
-use Rattle.candidates.specs.Entries.{bit, count, inFamily, hasIp, contains, sameBytes}
+use Rattle.candidates.specs.Entries.{inFamily, hasIp, contains, sameBytes}
 use Rattle.candidates.specs.Selection.{counted}
 use Rattle.candidates.specs.OnePass.{tallied}
 use Rattle.candidates.specs.declared.Counts.{Counts}

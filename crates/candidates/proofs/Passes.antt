@@ -8,12 +8,13 @@ use native.Mathlib.Omega.{arith}
 use borrow.Author.Tests.{ltb-false, le-ltb}
 use lib.Dec.{ltb, leb}
 use lib.ListN.{length-append}
+use Rattle.prelude.specs.Lists.{count, such}
 use Rattle.prelude.specs.Choice.{pick, both, no}
 use Rattle.address.specs.Multiaddr.{parsed}
 use Rattle.address.specs.Words.{mayBeTarget}
 use Rattle.address.specs.declared.Parsed.{Parsed}
 use Rattle.address.specs.declared.Parsed.the-variants.{Address, Other}
-use Rattle.candidates.specs.Entries.{count, only, sameBytes, contains, ofParsed, isAddress, inFamily, hasIp}
+use Rattle.candidates.specs.Entries.{sameBytes, contains, ofParsed, isAddress, inFamily, hasIp}
 use Rattle.candidates.specs.Selection.{counted, roomFor, room, keep, bounded, punchable, selected, unlessThere, once, own}
 use Rattle.candidates.specs.OnePass.{wantedFrom, keptFrom}
 use Rattle.candidates.specs.declared.Source.the-variants.{Peer, Own, Any}
@@ -30,16 +31,16 @@ wanted-peer l private xs a = by-parsed (parsed a)
     by-parsed (Address ip port) = refl
     by-parsed Other = refl
 
-peer-from : (l : Limits) (private : Bool) (got xs : List (List ℕ)) → foldl (keptFrom l (Peer private)) got xs ≡ foldl (keep l) got (only (punchable private) xs)
-unfolding only
+peer-from : (l : Limits) (private : Bool) (got xs : List (List ℕ)) → foldl (keptFrom l (Peer private)) got xs ≡ foldl (keep l) got (such (punchable private) xs)
+unfolding such
 peer-from l private got [] = refl
 peer-from l private got (a ∷ xs) =
     ap (λ (w : Bool). foldl (keptFrom l (Peer private)) (pick w (got ++ (a ∷ [])) got) xs) (wanted-peer l private got a)
     ∙ by-test (punchable private a) (λ g. peer-from l private g xs)
   where
-    by-test : (t : Bool) → ((g : List (List ℕ)) → foldl (keptFrom l (Peer private)) g xs ≡ foldl (keep l) g (only (punchable private) xs))
+    by-test : (t : Bool) → ((g : List (List ℕ)) → foldl (keptFrom l (Peer private)) g xs ≡ foldl (keep l) g (such (punchable private) xs))
         → foldl (keptFrom l (Peer private)) (pick (both t (room l got a)) (got ++ (a ∷ [])) got) xs
-        ≡ foldl (keep l) got (pick t (a ∷ only (punchable private) xs) (only (punchable private) xs))
+        ≡ foldl (keep l) got (pick t (a ∷ such (punchable private) xs) (such (punchable private) xs))
     by-test true h = h (keep l got a)
     by-test false h = h got
 
@@ -178,15 +179,15 @@ not-wanted l xs a e = by-parsed (parsed a) e
     by-parsed (Address ip port) h = let z : _≡_ {A = ℕ} 0 1 = cc in absurd (omega arith)
     by-parsed Other h = refl
 
-own-addresses : (l : Limits) (got xs : List (List ℕ)) → foldl (keptFrom l Own) got xs ≡ foldl (keptFrom l Own) got (only isAddress xs)
-unfolding only
+own-addresses : (l : Limits) (got xs : List (List ℕ)) → foldl (keptFrom l Own) got xs ≡ foldl (keptFrom l Own) got (such isAddress xs)
+unfolding such
 own-addresses l got [] = refl
 own-addresses l got (a ∷ xs) = by-test (isAddress a) refl (λ g. own-addresses l g xs)
   where
-    by-test : (t : Bool) → isAddress a ≡ t → ((g : List (List ℕ)) → foldl (keptFrom l Own) g xs ≡ foldl (keptFrom l Own) g (only isAddress xs))
-        → foldl (keptFrom l Own) (keptFrom l Own got a) xs ≡ foldl (keptFrom l Own) got (pick t (a ∷ only isAddress xs) (only isAddress xs))
+    by-test : (t : Bool) → isAddress a ≡ t → ((g : List (List ℕ)) → foldl (keptFrom l Own) g xs ≡ foldl (keptFrom l Own) g (such isAddress xs))
+        → foldl (keptFrom l Own) (keptFrom l Own got a) xs ≡ foldl (keptFrom l Own) got (pick t (a ∷ such isAddress xs) (such isAddress xs))
     by-test true e h = h (keptFrom l Own got a)
-    by-test false e h = h (keptFrom l Own got a) ∙ ap (λ (w : Bool). foldl (keptFrom l Own) (pick w (got ++ (a ∷ [])) got) (only isAddress xs)) (not-wanted l got a e)
+    by-test false e h = h (keptFrom l Own got a) ∙ ap (λ (w : Bool). foldl (keptFrom l Own) (pick w (got ++ (a ∷ [])) got) (such isAddress xs)) (not-wanted l got a e)
 
 -- what is kept of the forms seen, after one address more
 own-step : (l : Limits) (seen : List (List ℕ)) (a : List ℕ) → keptFrom l Own (bounded l seen) a ≡ bounded l (unlessThere seen a)
@@ -205,4 +206,4 @@ own-from l seen (a ∷ xs) = ap (λ (k : List (List ℕ)). foldl (keptFrom l Own
 
 pub own-is : (l : Limits) (xs : List (List ℕ)) → foldl (keptFrom l Own) [] xs ≡ own l xs
 unfolding own once
-own-is l xs = own-addresses l [] xs ∙ start l (only isAddress xs) ∙ own-from l [] (only isAddress xs)
+own-is l xs = own-addresses l [] xs ∙ start l (such isAddress xs) ∙ own-from l [] (such isAddress xs)

@@ -10,7 +10,8 @@ use borrow.Author.Tests.{leb-false, ltb-false, le-leb, eq-eqb, ne-eqb}
 use lib.Dec.{ltb, leb, eqb}
 use lib.ListN.{length, take, replicate, length-append}
 use lib.Seq.{take-append-seam}
-use Rattle.prelude.specs.Choice.{both, either, no}
+use Rattle.prelude.specs.Lists.{count, such}
+use Rattle.prelude.specs.Choice.{both, either, no, bit}
 use Rattle.address.specs.Multiaddr.{parsed, hasForm, number, longest4, longest6}
 use Rattle.address.specs.declared.Ip.{Ip}
 use Rattle.address.specs.declared.Ip.the-variants.{V4, V6}
@@ -18,7 +19,7 @@ use Rattle.address.specs.declared.Parsed.the-variants.{Address, Other}
 use Rattle.address.proofs.Digits.{address-long}
 use Rattle.wire.specs.Lists.{entries, broken, entry, listed}
 use Rattle.wire.proofs.Listed.{All, read-back}
-use Rattle.candidates.specs.Entries.{bit, count, only, contains, sameBytes, sameFamily, ofAddress, isAddress, inFamily, hasIp, hasSize}
+use Rattle.candidates.specs.Entries.{contains, sameBytes, sameFamily, ofAddress, isAddress, inFamily, hasIp, hasSize}
 use Rattle.candidates.specs.Selection.{counted, roomFor, room, keep, bounded, punchable, selected, unlessThere, once, own, packed, entrySize, capacity, longest}
 use Rattle.candidates.specs.Laws.{AllPass, Sublist, KeepsLimits, LimitMet, DropsOnlyAtLimits, Short, IsListOf, UsualNumbers}
 use Rattle.candidates.specs.declared.Limits.{Limits}
@@ -45,14 +46,14 @@ pub selection-limits : (t : Terms) (xs : List (List ℕ)) → KeepsLimits (t .li
 unfolding selected
 selection-limits t xs =
     let p = punchable (t .private) in (
-      limits (t .limits) xs (only p xs) (sub-only p xs),
-      all-pass p _ (sub-all (λ a. punchable (t .private) a ≡ true) (sub-bounded (t .limits) (only p xs)) (all-only p xs)),
+      limits (t .limits) xs (such p xs) (sub-only p xs),
+      all-pass p _ (sub-all (λ a. punchable (t .private) a ≡ true) (sub-bounded (t .limits) (such p xs)) (all-only p xs)),
     )
 
 pub own-limits : (l : Limits) (xs : List (List ℕ)) → KeepsLimits l xs (own l xs) × ((a : List ℕ) → count (sameBytes a) (own l xs) ≤ 1)
 unfolding own
 own-limits l xs =
-    let ys = only isAddress xs in (
+    let ys = such isAddress xs in (
       limits l xs (once ys) (sub-trans (sub-once ys) (sub-only isAddress xs)),
       (λ (a : List ℕ). let b = sub-count (sameBytes a) (sub-bounded l (once ys)) in omega (arith, b, once-each a ys)),
     )
@@ -91,16 +92,16 @@ pub selection-complete : (t : Terms) → DropsOnlyAtLimits (t .limits) (selected
 unfolding selected
 selection-complete t before after a ip port e w =
     let p = punchable (t .private) in
-    let q : only p (before ++ (a ∷ after)) ≡ only p before ++ (a ∷ only p after) = only-append p before (a ∷ after) ∙ ap (λ (k : List (List ℕ)). only p before ++ k) (only-here p a after w) in
-    rw q (next (t .limits) (only p before) (only p after) a ip port e)
+    let q : such p (before ++ (a ∷ after)) ≡ such p before ++ (a ∷ such p after) = only-append p before (a ∷ after) ∙ ap (λ (k : List (List ℕ)). such p before ++ k) (only-here p a after w) in
+    rw q (next (t .limits) (such p before) (such p after) a ip port e)
 
 pub own-complete : (l : Limits) → DropsOnlyAtLimits l (own l) (λ before a. no (contains a before))
 unfolding own once
 own-complete l before after a ip port e w =
-    let ys = only isAddress before in
-    let zs = only isAddress after in
+    let ys = such isAddress before in
+    let zs = such isAddress after in
     let i : isAddress a ≡ true = of-parsed (λ ip port. true) a e in
-    let q : only isAddress (before ++ (a ∷ after)) ≡ ys ++ (a ∷ zs) = only-append isAddress before (a ∷ after) ∙ ap (λ (k : List (List ℕ)). ys ++ k) (only-here isAddress a after i) in
+    let q : such isAddress (before ++ (a ∷ after)) ≡ ys ++ (a ∷ zs) = only-append isAddress before (a ∷ after) ∙ ap (λ (k : List (List ℕ)). ys ++ k) (only-here isAddress a after i) in
     let g = foldl unlessThere [] ys in
     let n : contains a g ≡ false = sub-lacks a (sub-first ys) (sub-lacks a (sub-only isAddress before) (negated (contains a before) w)) in
     let k : unlessThere g a ≡ g ++ (a ∷ []) = rw n in
@@ -192,11 +193,11 @@ short l xs =
 
 pub selection-short : (t : Terms) (xs : List (List ℕ)) → Short (t .limits) (selected t xs)
 unfolding selected
-selection-short t xs = short (t .limits) (only (punchable (t .private)) xs)
+selection-short t xs = short (t .limits) (such (punchable (t .private)) xs)
 
 pub own-short : (l : Limits) (xs : List (List ℕ)) → Short l (own l xs)
 unfolding own
-own-short l xs = short l (once (only isAddress xs))
+own-short l xs = short l (once (such isAddress xs))
 
 -- ---- the answer as a list
 list-of : (l : Limits) (xs : List (List ℕ)) → IsListOf (bounded l xs) (packed (listed (bounded l xs)))
@@ -209,11 +210,11 @@ list-of l xs =
 
 pub selection-list : (t : Terms) (xs : List (List ℕ)) → IsListOf (selected t xs) (packed (listed (selected t xs)))
 unfolding selected
-selection-list t xs = list-of (t .limits) (only (punchable (t .private)) xs)
+selection-list t xs = list-of (t .limits) (such (punchable (t .private)) xs)
 
 pub own-list : (l : Limits) (xs : List (List ℕ)) → IsListOf (own l xs) (packed (listed (own l xs)))
 unfolding own
-own-list l xs = list-of l (once (only isAddress xs))
+own-list l xs = list-of l (once (such isAddress xs))
 
 -- ---- the usual limits
 pub numbers : UsualNumbers

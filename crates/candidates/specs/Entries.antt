@@ -1,28 +1,15 @@
 -- The entries of an address list, and how many of them have a property (RULES.md, section 7).
-use Prim.Native.Nat.{ℕ, _+_}
+use Prim.Native.Nat.{ℕ}
 use mathlib.Core.Bool.{Bool, true, false}
 use mathlib.Core.List.{List, [], _∷_}
 use lib.Dec.{eqb}
 use lib.ListN.{length}
-use Rattle.prelude.specs.Choice.{pick, both, either}
+use Rattle.prelude.specs.Choice.{both, either}
 use Rattle.address.specs.Multiaddr.{parsed}
 use Rattle.address.specs.declared.Ip.{Ip}
 use Rattle.address.specs.declared.Ip.the-variants.{V4, V6}
 use Rattle.address.specs.declared.Parsed.{Parsed}
 use Rattle.address.specs.declared.Parsed.the-variants.{Address, Other}
-
-abbrev pub bit : Bool → ℕ
-bit true = 1
-bit false = 0
-
--- how many entries pass a test, and which
-unfoldable pub count : (List ℕ → Bool) → List (List ℕ) → ℕ
-count p [] = 0
-count p (a ∷ xs) = bit (p a) + count p xs
-
-unfoldable pub only : (List ℕ → Bool) → List (List ℕ) → List (List ℕ)
-only p [] = []
-only p (a ∷ xs) = pick (p a) (a ∷ only p xs) (only p xs)
 
 unfoldable pub sameBytes : List ℕ → List ℕ → Bool
 sameBytes [] [] = true

@@ -6,12 +6,13 @@ use mathlib.Core.Logic.{_⊎_}
 use Prim.Native.Nat.{ℕ, _<_, _≤_}
 use lib.Dec.{leb}
 use lib.ListN.{length, take}
+use Rattle.prelude.specs.Lists.{count}
 use Rattle.prelude.specs.Choice.{either}
 use Rattle.wire.specs.Lists.{entries, broken, listed}
 use Rattle.address.specs.Multiaddr.{parsed, longest4, longest6}
 use Rattle.address.specs.declared.Ip.{Ip}
 use Rattle.address.specs.declared.Parsed.the-variants.{Address}
-use Rattle.candidates.specs.Entries.{count, ofAddress, inFamily, hasIp, hasSize}
+use Rattle.candidates.specs.Entries.{ofAddress, inFamily, hasIp, hasSize}
 use Rattle.candidates.specs.Selection.{usual, mostBytes}
 use Rattle.candidates.specs.declared.Limits.{Limits}
 use Rattle.candidates.specs.declared.Chosen.{Chosen}

@@ -2,10 +2,10 @@
 use Prim.Native.Nat.{ℕ, _+_}
 use mathlib.Core.Bool.{Bool, true}
 use mathlib.Core.List.{List, [], _∷_, _++_}
-use Rattle.prelude.specs.Choice.{pick, both, no}
+use Rattle.prelude.specs.Choice.{pick, both, no, bit}
 use Rattle.address.specs.Words.{mayBeTarget}
 use Rattle.address.specs.declared.Ip.{Ip}
-use Rattle.candidates.specs.Entries.{bit, contains, ofAddress, inFamily, hasIp}
+use Rattle.candidates.specs.Entries.{contains, ofAddress, inFamily, hasIp}
 use Rattle.candidates.specs.Selection.{counted, roomFor}
 use Rattle.candidates.specs.declared.Limits.{Limits}
 use Rattle.candidates.specs.declared.Counts.{Counts}

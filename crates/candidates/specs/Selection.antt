@@ -3,7 +3,8 @@ use Prim.Native.Nat.{ℕ, _+_, _-_, _*_}
 use mathlib.Core.Bool.{Bool}
 use mathlib.Core.List.{List, [], _∷_, _++_, foldl}
 use lib.Dec.{leb, ltb}
-use lib.ListN.{length, replicate}
+use lib.ListN.{length}
+use Rattle.prelude.specs.Lists.{padded, count, such}
 use Rattle.prelude.specs.Choice.{pick, both}
 use Rattle.refusal.specs.declared.Refusal.the-variants.{BrokenList}
 use Rattle.vocabulary.specs.declared.Outcome.the-variants.{Accepted, Refused}
@@ -11,7 +12,7 @@ use Rattle.wire.specs.Lists.{broken, listed}
 use Rattle.address.specs.Multiaddr.{longest4, longest6}
 use Rattle.address.specs.Words.{mayBeTarget}
 use Rattle.address.specs.declared.Ip.{Ip}
-use Rattle.candidates.specs.Entries.{count, only, contains, ofAddress, isAddress, inFamily, hasIp}
+use Rattle.candidates.specs.Entries.{contains, ofAddress, isAddress, inFamily, hasIp}
 use Rattle.candidates.specs.declared.Limits.{Limits}
 use Rattle.candidates.specs.declared.Terms.{Terms}
 use Rattle.candidates.specs.declared.Counts.{Counts}
@@ -58,7 +59,7 @@ abbrev pub punchable : Bool → List ℕ → Bool
 punchable private = ofAddress (λ ip port. mayBeTarget private ip)
 
 unfoldable pub selected : Terms → List (List ℕ) → List (List ℕ)
-selected t xs = bounded (t .limits) (only (punchable (t .private)) xs)
+selected t xs = bounded (t .limits) (such (punchable (t .private)) xs)
 
 -- one's own: each form once, its first, then bounded
 abbrev pub unlessThere : List (List ℕ) → List ℕ → List (List ℕ)
@@ -68,7 +69,7 @@ unfoldable pub once : List (List ℕ) → List (List ℕ)
 once xs = foldl unlessThere [] xs
 
 unfoldable pub own : Limits → List (List ℕ) → List (List ℕ)
-own l xs = bounded l (once (only isAddress xs))
+own l xs = bounded l (once (such isAddress xs))
 
 -- an address stands in a list behind its length of two bytes (section 5)
 abbrev pub entrySize : ℕ → ℕ
@@ -87,7 +88,7 @@ mostBytes l = entrySize longest4 * l .family + entrySize longest6 * l .family
 
 -- bytes, and zero bytes behind them
 abbrev pub packed : List ℕ → Chosen
-packed s = record { bytes = s ++ replicate (capacity - length s) 0; len = length s }
+packed s = record { bytes = padded capacity 0 s; len = length s }
 
 -- the answer for a list s of which xs are kept
 unfoldable pub answered : List ℕ → List (List ℕ) → Selection

@@ -3,12 +3,13 @@ use mathlib.Core.Path.{_≡_, ap, _∙_}
 use mathlib.Core.List.{List, _++_}
 use mathlib.Core.Bool.{Bool}
 use Prim.Native.Nat.{ℕ}
+use Rattle.prelude.specs.Choice.{bit}
 use Rattle.text.specs.Words.{ascii}
 use Rattle.text.specs.Decimal.{decimal}
 use Rattle.text.specs.Printed.{printed, behind}
 use Rattle.journal_turns.specs.Turns.{Journal, Turned, lineTurn}
 use Rattle.circuit_questions.specs.declared.Answers.{Answers}
-use Rattle.circuit_questions.specs.Answers.{bit, answersOf, nextText, answersText, turnText, lineText}
+use Rattle.circuit_questions.specs.Answers.{answersOf, nextText, answersText, turnText, lineText}
 
 pub answers-text : (n : ℕ) (a : Answers) (took : Bool) {promotes claims taken : ℕ} → promotes ≡ bit (a .promotes) → claims ≡ bit (a .claims)
     → taken ≡ bit took

@@ -2,7 +2,7 @@
 use Prim.Native.Nat.{ℕ}
 use mathlib.Core.Bool.{Bool, true, false}
 use mathlib.Core.List.{List, _++_}
-use Rattle.prelude.specs.Choice.{pick}
+use Rattle.prelude.specs.Choice.{pick, bit}
 use Rattle.text.specs.Words.{ascii}
 use Rattle.text.specs.Decimal.{decimal}
 use Rattle.path.specs.declared.Claim.{Claim}
@@ -33,10 +33,6 @@ answersOf begun c =
     (record { next = deadline.None; promotes = false; claims = false })
 
 -- ---- what is printed
-
--- 1 for yes, 0 for no
-abbrev pub bit : Bool → ℕ
-bit v = pick v 1 0
 
 abbrev pub nextText : Deadline → List ℕ
 nextText (deadline.At end) = ascii " next=" ++ decimal end

@@ -3,10 +3,11 @@
 ghost use mathlib.Core.Path.{_≡_};
 ghost use Prim.Native.Nat.{_≤_};
 ghost use lib.ListN.{length};
+ghost use Rattle.prelude.specs.Choice.{bit};
 ghost use Rattle.text.specs.Printed.{printed, behind};
 ghost use Rattle.ledger.specs.Ledger.{tablesOf};
 ghost use Rattle.journal_turns.specs.Turns.{whole, lineTurn};
-ghost use Rattle.circuit_questions.specs.Answers.{isClaim, bit, answersOf, nextText, answersText, lineText};
+ghost use Rattle.circuit_questions.specs.Answers.{isClaim, answersOf, nextText, answersText, lineText};
 use circuit::state::Core;
 use frames::FrameBytes;
 use journal_turns::State;

@@ -5,15 +5,14 @@ use mathlib.Core.List.{List, [], _∷_, _++_, append-assoc}
 use native.Mathlib.Omega.{arith}
 use lib.ListN.{set, length, take, length-append, length-take}
 use lib.Seq.{take-all, set-append-seam}
-use Rattle.rows.specs.Rows.{padded}
+use Rattle.prelude.specs.Lists.{padded}
 
 module _ {A : Type 0} where
   pub length-first : (n : ℕ) (xs : List A) → length (take n xs) ≤ n
   length-first n xs = simp length-take (omega arith)
 
 module _ {A : Type 0} (z : A) where
-  set-padded : (xs : List A) (x : A) → length xs < 64 → set (padded z xs) (length xs) x ≡ padded z (xs ++ (x ∷ []))
-  unfolding padded
+  set-padded : (xs : List A) (x : A) → length xs < 64 → set (padded 64 z xs) (length xs) x ≡ padded 64 z (xs ++ (x ∷ []))
   set-padded xs x h =
       let k : 64 - length xs ≡ suc (63 - length xs) = omega arith in
       let k2 : 64 - length (xs ++ (x ∷ [])) ≡ 63 - length xs = simp length-append (omega arith) in
@@ -21,7 +20,7 @@ module _ {A : Type 0} (z : A) where
 
 -- the array holds the first 64 of the values, and the count is theirs
 pub record Filled {A : Type 0} (z : A) (array : List A) (count : ℕ) (xs : List A) : Type 0 where
-  pub array-is : array ≡ padded z (take 64 xs)
+  pub array-is : array ≡ padded 64 z (take 64 xs)
   pub count-is : count ≡ length (take 64 xs)
 
 module _ {A : Type 0} {z : A} {array : List A} {count : ℕ} {xs : List A} (f : Filled z array count xs) where

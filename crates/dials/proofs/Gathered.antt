@@ -6,11 +6,11 @@ use mathlib.Core.List.{List, [], _∷_, _++_, append-nil}
 use native.Mathlib.Omega.{arith}
 use lib.ListN.{set, length, getD, take}
 use lib.Seq.{take-all}
+use Rattle.prelude.specs.Lists.{padded}
 use Rattle.ids.specs.declared.NatToken.{NatToken}
 use Rattle.ids.specs.declared.ConnectionId.{ConnectionId}
 use Rattle.rows.specs.declared.Row.{Row}
 use Rattle.rows.specs.Words.{noRow}
-use Rattle.rows.specs.Rows.{padded}
 use Rattle.dials.specs.declared.First.{First}
 use Rattle.dials.specs.declared.Firsts.{Firsts}
 use Rattle.dials.specs.Dials.{each, pairs, noFirst, tokensOf, connectionsOf}
@@ -22,7 +22,7 @@ pub record Gathered {C : Type 0} (z : C) (f : Row × First → List C) (rs : Lis
   pub values : Filled z array n (each f (take i (pairs rs (firsts .rows))))
 
 module _ {C : Type 0} {z : C} {f : Row × First → List C} {rs : List Row} {firsts : Firsts} {array : List C} where
-  pub none-yet : array ≡ padded z [] → Gathered z f rs firsts 0 array 0
+  pub none-yet : array ≡ padded 64 z [] → Gathered z f rs firsts 0 array 0
   unfolding each
   none-yet e = record { count-≤ = omega arith; values = record { array-is = e; count-is = refl } }
 

@@ -5,10 +5,11 @@ use mathlib.Core.Bool.{Bool, false}
 use mathlib.Core.List.{List, [], _∷_, _++_, map}
 use native.Mathlib.Omega.{arith}
 use lib.ListN.{length, getD, take, set, replicate}
+use Rattle.prelude.specs.Lists.{padded}
 use Rattle.prelude.specs.Choice.{pick}
 use Rattle.ids.specs.declared.ConnectId.{ConnectId}
 use Rattle.rows.specs.declared.Row.{Row}
-use Rattle.rows.specs.Rows.{marked, padded}
+use Rattle.rows.specs.Rows.{marked}
 use Rattle.rows.specs.Words.{noRow}
 use Rattle.dials.specs.declared.First.{First}
 use Rattle.dials.specs.declared.Fate.{Fate}
@@ -43,7 +44,7 @@ left-marked id (r ∷ rs) (f ∷ fs) ms h = go (fateAt id r f) (left-marked id r
 
 -- the marked rows are those that are left
 pub staying-left : (id : ConnectId) (rs : List Row) (fs : List First) → length rs ≤ length fs → marked (staying id (pairs rs fs) .keep) rs ≡ each (leftOf id) (pairs rs fs)
-unfolding staying padded
+unfolding staying
 staying-left id rs fs h = left-marked id rs fs _ h
 
 pub left-≤ : (id : ConnectId) (rs : List Row) (fs : List First) → length (each (leftOf id) (pairs rs fs)) ≤ length rs

@@ -6,6 +6,7 @@ use mathlib.Core.Bool.{Bool, true, false}
 use mathlib.Core.List.{List, [], _∷_, _++_, map}
 use lib.ListN.{length, take, replicate}
 use lib.Dec.{eqb}
+use Rattle.prelude.specs.Lists.{padded}
 use Rattle.prelude.specs.Choice.{pick}
 use Rattle.ids.specs.declared.PeerId.{PeerId}
 use Rattle.ids.specs.declared.ConnectionId.{ConnectionId}
@@ -19,7 +20,7 @@ use Rattle.rows.specs.declared.Entry.the-variants.{Other as OtherEntry, Dialed,
 use Rattle.rows.specs.declared.Row.{Row}
 use Rattle.rows.specs.declared.Marks.{Marks}
 use Rattle.rows.specs.Kinds.{entryOf}
-use Rattle.rows.specs.Rows.{capacity, padded}
+use Rattle.rows.specs.Rows.{capacity}
 use Rattle.dials.specs.declared.FirstLive.{FirstLive}
 use Rattle.dials.specs.declared.FirstLive.the-variants.{None as NoLive, At as LiveAt}
 use Rattle.dials.specs.declared.First.{First}
@@ -117,10 +118,10 @@ pairs (a ∷ as′) [] = []
 pairs (a ∷ as′) (b ∷ bs) = (a, b) ∷ pairs as′ bs
 
 unfoldable pub tokensOf : List NatToken → Tokens
-tokensOf ts = record { tokens = padded (record { 0 = 0 }) (take capacity ts); count = length (take capacity ts) }
+tokensOf ts = record { tokens = padded capacity (record { 0 = 0 }) (take capacity ts); count = length (take capacity ts) }
 
 unfoldable pub connectionsOf : List ConnectionId → Connections
-connectionsOf cs = record { connections = padded (record { 0 = 0 }) (take capacity cs); count = length (take capacity cs) }
+connectionsOf cs = record { connections = padded capacity (record { 0 = 0 }) (take capacity cs); count = length (take capacity cs) }
 
 -- of a row and what is found for it
 abbrev pub leftOf : ConnectId → Row × First → List Row
@@ -134,7 +135,7 @@ closedOf id p = closedBy (p .0) (fateAt id (p .0) (p .1))
 
 -- a mark for each row: whether it stays
 unfoldable pub staying : ConnectId → List (Row × First) → Marks
-staying id ps = record { keep = padded false (map (λ (p : Row × First). stays (fateAt id (p .0) (p .1))) ps) }
+staying id ps = record { keep = padded capacity false (map (λ (p : Row × First). stays (fateAt id (p .0) (p .1))) ps) }
 
 unfoldable pub abortWith : ConnectId → List (Row × First) → Dropped
 abortWith id ps = record { retired = tokensOf (each (retiredOf id) ps); close = connectionsOf (each (closedOf id) ps) }

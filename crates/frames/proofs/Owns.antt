@@ -8,7 +8,8 @@ use native.Mathlib.Omega.{arith}
 use borrow.Author.Tests.{lt-ltb, le-ltb, le-leb, eqb-true}
 use lib.Dec.{ltb, eqb}
 use lib.ListN.{length, replicate, length-append}
-use Rattle.prelude.specs.Choice.{pick, either}
+use Rattle.prelude.specs.Lists.{count}
+use Rattle.prelude.specs.Choice.{pick, either, bit}
 use Rattle.wire.specs.Lists.{entries, broken, listed}
 use Rattle.wire.proofs.Listed.{All}
 use Rattle.message.specs.declared.Kind.the-variants.{Connect}
@@ -18,7 +19,7 @@ use Rattle.frames.specs.Sent as frame
 use Rattle.frames.specs.declared.Framed.{Framed}
 use Rattle.frames.proofs.Frames.{connect-listed}
 use Rattle.address.specs.Multiaddr.{longest4, longest6}
-use Rattle.candidates.specs.Entries.{bit, count, hasSize}
+use Rattle.candidates.specs.Entries.{hasSize}
 use Rattle.candidates.specs.Laws.{AllPass}
 use Rattle.candidates.specs.Selection.{usual, most, held, own, packed, capacity, answered}
 use Rattle.candidates.specs.declared.Limits.{Limits}

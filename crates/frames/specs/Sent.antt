@@ -1,8 +1,9 @@
 -- The frames that go out (RULES.md, sections 3 and 4).
 use Prim.Native.Nat.{ℕ, _+_, _-_, _*_}
-use mathlib.Core.List.{List, [], _∷_, _++_}
-use lib.ListN.{length, take, replicate}
+use mathlib.Core.List.{List, [], _∷_}
+use lib.ListN.{length, take}
 use lib.Dec.{leb, ltb}
+use Rattle.prelude.specs.Lists.{padded}
 use Rattle.prelude.specs.Choice.{pick}
 use Rattle.wire.specs.Lists.{entries, broken}
 use Rattle.message.specs.Encoding.{frameBytes}
@@ -26,7 +27,7 @@ frameCapacity = headSize + (usual .family * fieldSize longest4 + usual .family *
 
 -- a frame's bytes from the first on, zero bytes behind them, and their number
 abbrev pub packed : List ℕ → Framed
-packed s = record { bytes = s ++ replicate (frameCapacity - length s) 0; len = length s }
+packed s = record { bytes = padded frameCapacity 0 s; len = length s }
 
 -- a frame's bytes where it has room, else nothing
 abbrev pub fitted : List ℕ → Framed

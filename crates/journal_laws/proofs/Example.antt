@@ -1,6 +1,7 @@
 -- The worked example, computed from its text to what it prints. Assumes nothing.
 use mathlib.Core.Path.{_≡_, refl}
 use mathlib.Core.List.{[]}
+use Rattle.prelude.specs.Lists.{count, such}
 use Rattle.time.specs.Time.{plus}
 use Rattle.text.specs.Decimal.{digitsFrom, decimalOf, digitsOf}
 use Rattle.text.specs.Hexadecimal.{isHexadecimal, bytesOf, hexadecimal}
@@ -9,7 +10,7 @@ use Rattle.fields.specs.Values.{maybeOf, pairOf}
 use Rattle.fields.specs.Fields.{valueAt, numberAt, choiceAt, maybeAt, pairAt, bytesAt}
 use Rattle.fields.specs.Line.{number, choice, maybe, pair, bytes, ends}
 use Rattle.budget.specs.Budget.{armed, mayBegin, oneMore, begun, withExchange, ended, windowEnd, upgradeDue, dueAt, nextDeadline}
-use Rattle.schedule.specs.Instants.{halfOf, startOf, upto, instants, countIf, countTo}
+use Rattle.schedule.specs.Instants.{halfOf, startOf, upto, instants, countTo}
 use Rattle.schedule.specs.Schedule.{ahead, without, timesOf, dueOf, openedOf}
 use Rattle.wire.specs.Frame.{frameFrom}
 use Rattle.wire.specs.Varint.{valueOf, spanOf, varintOf, groups}
@@ -21,9 +22,7 @@ use Rattle.frames.specs.Gathering.{gathering}
 use Rattle.frames.specs.Sent.{syncFrame, ownConnect}
 use Rattle.address.specs.Multiaddr.{bigEndian, hasForm, parsed}
 use Rattle.address.specs.Words.{globalUnicast4, mayBeTarget}
-use Rattle.candidates.specs.Entries.{count, only}
 use Rattle.candidates.specs.Selection.{selected, bounded, room, once, own}
-use Rattle.rows.specs.Rows.{such}
 use Rattle.ledger.specs.Ledger.{emptyLedger, refusesPunches}
 use Rattle.circuit.specs.State.{inPhase, exchangingOf, punchingOf}
 use Rattle.circuit.specs.Decisions.{eventOf, silence, resetOf, burstOf, sendingOf, decidedOf, quietOf}
@@ -49,7 +48,7 @@ use Rattle.journal_effects.specs.Effects as effects
 use Rattle.journal_turns.specs.Turns as turns
 
 pub example : journalText input ≡ printed
-unfolding plus digitsFrom decimalOf digitsOf isHexadecimal bytesOf hexadecimal begins isWord lengthBefore maybeOf pairOf valueAt numberAt choiceAt maybeAt pairAt bytesAt number choice maybe pair bytes ends armed mayBegin oneMore begun withExchange ended windowEnd upgradeDue dueAt nextDeadline halfOf startOf upto instants countIf countTo ahead without timesOf dueOf openedOf schedule.windowOf frameFrom valueOf spanOf varintOf groups along listed fieldOf scan addressFields gathering syncFrame ownConnect bigEndian hasForm parsed globalUnicast4 mayBeTarget count only selected bounded room once own such emptyLedger refusesPunches inPhase exchangingOf punchingOf eventOf silence resetOf burstOf sendingOf decidedOf quietOf inUse checkOf isLive openRound tickPunching announced connectedOf upAt closing inExchange writeOf firstInput roundTrip windowOf openWindow exchangeInput awaitsIn broughtBy targetsFrom peekedOf lengthOf sentAfter ledgerAfter opens connectAfter framedBy targetsAfter begunOf startedOf upIn upOf tickIn tickOf hearing inputIn inputOf bufferAfter line.timed line.settled line.heard line.answered line.connected line.settingsOf line.startOf line.upOf line.inputLine line.tickOf line.lineOf part.timesOf part.othersAt part.kindAt part.inputOf part.kinded part.inputAt part.answersAt part.connectionAt withCommas targetsText effects.linesText effects.noEffect effects.effectsText turns.newJournal turns.counted turns.started turns.noEffects turns.silent turns.effectsOf turns.hostOf turns.startTurn turns.upTurn turns.inputTurn turns.tickTurn turns.turnOf turns.read turns.lineTurn firstOf opened lineText cut linesText opening journalText input
+unfolding plus digitsFrom decimalOf digitsOf isHexadecimal bytesOf hexadecimal begins isWord lengthBefore maybeOf pairOf valueAt numberAt choiceAt maybeAt pairAt bytesAt number choice maybe pair bytes ends armed mayBegin oneMore begun withExchange ended windowEnd upgradeDue dueAt nextDeadline halfOf startOf upto instants count countTo ahead without timesOf dueOf openedOf schedule.windowOf frameFrom valueOf spanOf varintOf groups along listed fieldOf scan addressFields gathering syncFrame ownConnect bigEndian hasForm parsed globalUnicast4 mayBeTarget such selected bounded room once own emptyLedger refusesPunches inPhase exchangingOf punchingOf eventOf silence resetOf burstOf sendingOf decidedOf quietOf inUse checkOf isLive openRound tickPunching announced connectedOf upAt closing inExchange writeOf firstInput roundTrip windowOf openWindow exchangeInput awaitsIn broughtBy targetsFrom peekedOf lengthOf sentAfter ledgerAfter opens connectAfter framedBy targetsAfter begunOf startedOf upIn upOf tickIn tickOf hearing inputIn inputOf bufferAfter line.timed line.settled line.heard line.answered line.connected line.settingsOf line.startOf line.upOf line.inputLine line.tickOf line.lineOf part.timesOf part.othersAt part.kindAt part.inputOf part.kinded part.inputAt part.answersAt part.connectionAt withCommas targetsText effects.linesText effects.noEffect effects.effectsText turns.newJournal turns.counted turns.started turns.noEffects turns.silent turns.effectsOf turns.hostOf turns.startTurn turns.upTurn turns.inputTurn turns.tickTurn turns.turnOf turns.read turns.lineTurn firstOf opened lineText cut linesText opening journalText input
 example = refl
 
 pub nothing : journalText [] ≡ ascii "n=0 out=refused why=11\n"

@@ -5,10 +5,11 @@ use mathlib.Core.Bool.{Bool, true, false}
 use mathlib.Core.List.{List}
 use native.Mathlib.Omega.{arith}
 use lib.ListN.{length}
+use Rattle.prelude.specs.Lists.{such}
 use Rattle.rows.specs.declared.Row.{Row}
 use Rattle.rows.specs.declared.Table.the-variants.{Dials, Windows, Paths}
 use Rattle.prelude.specs.Choice.{no}
-use Rattle.rows.specs.Rows.{such, inserted, crowded}
+use Rattle.rows.specs.Rows.{inserted, crowded}
 use Rattle.rows.specs.Words.{rowsOf}
 use Rattle.rows.proofs.Words.{used-is}
 use Rattle.rows.proofs.Lists.{such-≤}

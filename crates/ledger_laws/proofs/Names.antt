@@ -7,6 +7,7 @@ use mathlib.Core.List.{List, [], _∷_}
 use native.Mathlib.Omega.{arith}
 use borrow.Author.Tests.{eqb-false}
 use lib.Dec.{eqb}
+use Rattle.prelude.specs.Lists.{such}
 use Rattle.prelude.specs.Choice.{pick, both, no}
 use Rattle.ids.specs.declared.PeerId.{PeerId}
 use Rattle.ids.specs.declared.ConnectionId.{ConnectionId}
@@ -26,7 +27,7 @@ use Rattle.rows.specs.declared.Entry.the-variants.{Path as PathEntry}
 use Rattle.rows.specs.declared.Row.{Row}
 use Rattle.rows.specs.declared.Keep.the-variants.{Lasting}
 use Rattle.rows.specs.Kinds.{entryOf}
-use Rattle.rows.specs.Rows.{findIn, such, keepsRow, without, inserted, crowded, lasts as lasting}
+use Rattle.rows.specs.Rows.{findIn, keepsRow, without, inserted, crowded, lasts as lasting}
 use Rattle.rows.proofs.Laws.{find-entered, find-inserted-other, find-without, find-without-other}
 use Rattle.entries.specs.Entries.{pathOf, pathAt, dialAt, endOf, endAt, windowOpen, punchEnd, lasts, readAs}
 use Rattle.ledger.specs.Ledger.{PathLedger, Attributed, dialsOf, windowsOf, pathsOf, withWindows, withPaths, pathRow, windowRow, judgedBy, recorded, fullOr, refusesPunches, dialStarted, finishDial, abortedDials, expectPunches, endPunches, ticked, attributed, forgotten}

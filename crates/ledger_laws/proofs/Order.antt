@@ -3,13 +3,14 @@
 use mathlib.Core.Path.{_≡_, refl, ap, sym, subst}
 use mathlib.Core.Bool.{Bool, true, false}
 use mathlib.Core.List.{List, [], _∷_, _++_, map}
+use Rattle.prelude.specs.Lists.{such}
 use Rattle.prelude.specs.Choice.{pick}
 use Rattle.ids.specs.declared.ConnectId.{ConnectId}
 use Rattle.path.specs.declared.FoundPath.{FoundPath}
 use Rattle.path.specs.declared.FoundPath.the-variants.{At as PathAt, None as NoPath}
 use Rattle.ids.specs.declared.ConnectionId.{ConnectionId}
 use Rattle.rows.specs.declared.Row.{Row}
-use Rattle.rows.specs.Rows.{such, crowded}
+use Rattle.rows.specs.Rows.{crowded}
 use Rattle.rows.specs.Ascending.{Ascending}
 use Rattle.rows.specs.Ascending.Ascending.{none}
 use Rattle.rows.proofs.Laws.{ascending-such, ascending-inserted}

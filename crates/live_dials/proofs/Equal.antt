@@ -3,10 +3,10 @@ use Prim.Native.Nat.{_-_}
 use mathlib.Core.Path.{_≡_, refl, ap, _∙_}
 use mathlib.Core.List.{List, [], _∷_, _++_, map, map-append}
 use lib.ListN.{length, replicate}
+use Rattle.prelude.specs.Lists.{padded}
 use Rattle.ids.specs.declared.PeerId.{PeerId}
 use Rattle.ids.specs.declared.ConnectId.{ConnectId}
 use Rattle.rows.specs.declared.Row.{Row}
-use Rattle.rows.specs.Rows.{padded}
 use Rattle.dials.specs.declared.First.{First}
 use Rattle.dials.specs.Dials.{askedOf, firstFor, pairs}
 use Rattle.ledger.specs.Ledger.{PathLedger, aborted, abortedWith, abortedDials}
@@ -22,7 +22,7 @@ same-rows ls target (r ∷ rs) = rw (same-rows ls target rs)
 
 pub same-abort : (l : PathLedger) (id : ConnectId) (target : PeerId) (ls : List Live)
     → abortedWith l id (firstsFor (l .dials) target ls) ≡ abortedDials l id target (firstLive ls)
-unfolding abortedWith abortedDials askedRows padded
+unfolding abortedWith abortedDials askedRows
 same-abort l id target ls =
     let found : PeerId → First = λ (p : PeerId). first (firstOf ls p) in
     let behind = replicate (64 - length (map (askedOf target) (l .dials))) target in

@@ -1,9 +1,9 @@
 -- The peers that the rows of a table of dials ask for (RULES.md, section 10.4).
 -- one for each row; the target behind them
 use mathlib.Core.List.{List, map}
+use Rattle.prelude.specs.Lists.{padded}
 use Rattle.ids.specs.declared.PeerId.{PeerId}
 use Rattle.rows.specs.declared.Row.{Row}
-use Rattle.rows.specs.Rows.{padded}
 use Rattle.dials.specs.Dials.{askedOf}
 use Rattle.dials.specs.declared.Firsts.{Firsts}
 use Rattle.live_dials.specs.declared.Asked.{Asked}
@@ -11,7 +11,7 @@ use Rattle.live_dials.specs.declared.Live.{Live}
 use Rattle.live_dials.specs.First.{firstsOf}
 
 unfoldable pub askedRows : List Row → PeerId → Asked
-askedRows rs target = record { peers = padded target (map (askedOf target) rs) }
+askedRows rs target = record { peers = padded capacity target (map (askedOf target) rs) }
 
 -- the first live connection of each
 abbrev pub firstsFor : List Row → PeerId → List Live → Firsts

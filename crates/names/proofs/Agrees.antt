@@ -7,6 +7,7 @@ use mathlib.Core.List.{List, [], _∷_, _++_}
 use native.Mathlib.Omega.{arith}
 use borrow.Author.Tests.{eqb-true, eqb-false, ne-eqb, eq-eqb, ltb-true, ltb-false, lt-ltb, le-ltb}
 use lib.Dec.{eqb, ltb}
+use Rattle.prelude.specs.Lists.{such}
 use Rattle.prelude.specs.Choice.{pick, both, either}
 use Rattle.ids.specs.declared.PeerId.{PeerId}
 use Rattle.ids.specs.declared.ConnectionId.{ConnectionId}
@@ -30,7 +31,7 @@ use Rattle.rows.specs.Ascending.{Below, Ascending}
 use Rattle.rows.specs.Ascending.Below.{none as below-none, more as below-more}
 use Rattle.rows.specs.Ascending.Ascending.{none as ascending-none, more as ascending-more}
 use Rattle.rows.specs.Kinds.{entryOf}
-use Rattle.rows.specs.Rows.{findIn, such, keepsRow, kept, without, inserted, crowded}
+use Rattle.rows.specs.Rows.{findIn, keepsRow, kept, without, inserted, crowded}
 use Rattle.rows.specs.Rows as row
 use Rattle.rows.proofs.EntryRows.{entry-back}
 use Rattle.rows.proofs.Laws.{find-entered, find-inserted-other, find-without, find-without-other}

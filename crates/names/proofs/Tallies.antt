@@ -8,10 +8,11 @@ use native.Mathlib.Omega.{arith}
 use borrow.Author.Tests.{eq-eqb, ne-eqb, ltb-true, ltb-false}
 use lib.ListN.{length}
 use lib.Dec.{eqb, ltb, leb}
+use Rattle.prelude.specs.Lists.{such}
 use Rattle.prelude.specs.Choice.{pick, both, no}
 use Rattle.rows.specs.declared.Row.{Row}
 use Rattle.rows.specs.declared.Keep.the-variants.{Below as KeepBelow, Above as KeepAbove, Other}
-use Rattle.rows.specs.Rows.{such, keepsRow, kept, without, inserted, crowded}
+use Rattle.rows.specs.Rows.{keepsRow, kept, without, inserted, crowded}
 use Rattle.names.specs.Events.{others, isFull}
 
 -- how many there are for which the test holds

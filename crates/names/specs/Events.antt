@@ -6,6 +6,7 @@ use mathlib.Core.Bool.{Bool, true, false}
 use mathlib.Core.List.{List, [], _∷_, _++_}
 use lib.Dec.{ltb, leb, eqb}
 use lib.ListN.{length}
+use Rattle.prelude.specs.Lists.{such}
 use Rattle.prelude.specs.Choice.{pick, both, either, no}
 use Rattle.ids.specs.declared.PeerId.{PeerId}
 use Rattle.ids.specs.declared.ConnectionId.{ConnectionId}
@@ -13,7 +14,6 @@ use Rattle.ids.specs.declared.ConnectId.{ConnectId}
 use Rattle.path.specs.declared.Path.the-variants.{Punched, Direct}
 use Rattle.path.specs.declared.Owner.the-variants.{Attempt, Inbound, None}
 use Rattle.path.specs.declared.Attribution.{Attribution}
-use Rattle.rows.specs.Rows.{such}
 
 -- a punch dial of an attempt was started; a connection got a name; a connection was forgotten; a reply opened the window of a circuit's
 -- source to the upgrade's deadline, or extended it; a round was wanted and not had; the ledger was ticked

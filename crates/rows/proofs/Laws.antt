@@ -7,6 +7,7 @@ use native.Mathlib.Omega.{arith}
 use borrow.Author.Tests.{ltb-true, ltb-false, lt-ltb, le-ltb, eqb-true, eq-eqb, ne-eqb, leb-true, leb-false, le-leb}
 use lib.ListN.{length, length-append}
 use lib.Dec.{eqb, ltb}
+use Rattle.prelude.specs.Lists.{such}
 use Rattle.prelude.specs.Choice.{pick, no}
 use Rattle.rows.specs.declared.Row.{Row}
 use Rattle.rows.specs.declared.Found.{Found}
@@ -14,7 +15,7 @@ use Rattle.rows.specs.declared.Found.the-variants.{At, Nothing}
 use Rattle.rows.specs.declared.Keep.the-variants.{Below as KeepBelow, Above as KeepAbove, Other as KeepOther}
 use Rattle.rows.specs.declared.Entry.{Entry}
 use Rattle.rows.specs.Kinds.{entryOf, rowOf}
-use Rattle.rows.specs.Rows.{findIn, such, keepsRow, kept, without, inserted, crowded}
+use Rattle.rows.specs.Rows.{findIn, keepsRow, kept, without, inserted, crowded}
 use Rattle.rows.specs.Ascending.{Below, Ascending}
 use Rattle.rows.specs.Ascending.Below.{none as below-none, more as below-more}
 use Rattle.rows.specs.Ascending.Ascending.{none as ascending-none, more as ascending-more}

@@ -9,13 +9,14 @@ use lib.ListN.{length, getD, take, drop, set, replicate, length-take, length-map
 use lib.Seq.{drop-cons, getD-take, take-suc, take-nil, take-all, set-at, length-take-le}
 use lib.Dec.{eqb, ltb}
 use borrow.Author.Tests.{ltb-true, ltb-false, lt-ltb, le-ltb, eqb-true, eqb-false}
+use Rattle.prelude.specs.Lists.{padded, such}
 use Rattle.prelude.specs.Choice.{pick, no}
 use Rattle.rows.specs.declared.Entry.{Entry}
 use Rattle.rows.specs.declared.Row.{Row}
 use Rattle.rows.specs.declared.Found.the-variants.{At, Nothing}
 use Rattle.rows.specs.declared.Keep.the-variants.{Other, Below, Above}
 use Rattle.rows.specs.Kinds.{entryOf}
-use Rattle.rows.specs.Rows.{padded, findIn, keepsRow, such, kept, marked, marksBy, notBelow}
+use Rattle.rows.specs.Rows.{findIn, keepsRow, kept, marked, marksBy, notBelow}
 
 pub not-no : (b : Bool) → not b ≡ no b
 not-no true = refl
@@ -156,7 +157,7 @@ module _ {A : Type 0} where
   marked-by p (x ∷ xs) ms = rw (marked-by p xs ms) refl
 
 pub marks-such : (p : Row → Bool) (rs : List Row) → marked (marksBy p rs .keep) rs ≡ such p rs
-unfolding marksBy padded
+unfolding marksBy
 marks-such p rs = marked-by p rs _
 
 -- an array of 64 places that a loop fills from the front: one more value
@@ -169,8 +170,7 @@ map-more f z xs i d h k =
     rw (q, m) (set-at (map f (take i xs)) z (replicate (64 - (i + 1)) z) (f (getD xs i d)) i n ∙ sym (append-assoc (map f (take i xs)) (f (getD xs i d) ∷ []) (replicate (64 - (i + 1)) z)))
 
 -- and after the last
-pub map-all : {A B : Type 0} (f : A → B) (z : B) (xs : List A) (i : ℕ) → i ≡ length xs → map f (take i xs) ++ replicate (64 - i) z ≡ padded z (map f xs)
-unfolding padded
+pub map-all : {A B : Type 0} (f : A → B) (z : B) (xs : List A) (i : ℕ) → i ≡ length xs → map f (take i xs) ++ replicate (64 - i) z ≡ padded 64 z (map f xs)
 map-all f z xs i e =
     let t : take i xs ≡ xs = take-all i xs (omega arith) in
     let m : length (map f xs) ≡ i = length-map xs f ∙ sym e in

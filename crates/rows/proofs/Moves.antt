@@ -9,9 +9,10 @@ use native.Mathlib.Numerals.{add-one}
 use lib.ListN.{length, getD, take, drop, set, replicate, length-append, length-take, length-drop, length-replicate, drop-of-length-le, take-append-drop, replicate-append-replicate, List·getD-append}
 use lib.Seq.{drop-cons, take-suc, take-at, drop-at, getD-at, set-at, getD-take, getD-drop, getD-append-add, drop-append-add, length-take-le, split-at}
 use lib.Dec.{ltb}
+use Rattle.prelude.specs.Lists.{such}
 use Rattle.rows.specs.declared.Row.{Row}
 use Rattle.rows.specs.declared.Keep.the-variants.{Below}
-use Rattle.rows.specs.Rows.{such, kept, notBelow}
+use Rattle.rows.specs.Rows.{kept, notBelow}
 use Rattle.rows.specs.Words.{noRow, filled, brought, divided}
 use Rattle.rows.proofs.Lists.{such-append, two-sides}
 

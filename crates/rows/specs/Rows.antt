@@ -3,8 +3,9 @@
 use Prim.Native.Nat.{ℕ, _-_}
 use mathlib.Core.Bool.{Bool, true, false}
 use mathlib.Core.List.{List, [], _∷_, _++_, map}
-use lib.ListN.{length, replicate}
+use lib.ListN.{length}
 use lib.Dec.{eqb, ltb, leb}
+use Rattle.prelude.specs.Lists.{padded, such}
 use Rattle.prelude.specs.Choice.{pick, no}
 use Rattle.rows.specs.declared.Entry.{Entry}
 use Rattle.rows.specs.declared.Entry.the-variants.{Dialed, Window, Path, Other as OtherEntry}
@@ -18,10 +19,6 @@ use Rattle.rows.specs.Kinds.{entryOf}
 
 abbrev pub capacity : ℕ
 capacity = 64
-
--- as many places: the values, and z behind them
-unfoldable pub padded : {A : Type 0} → A → List A → List A
-padded z xs = xs ++ replicate (capacity - length xs) z
 
 -- what the first row with the key says
 unfoldable pub findIn : ℕ → List Row → Found
@@ -41,11 +38,6 @@ keepsRow (Above k) r = ltb k (r .key)
 keepsRow (Other k) r = no (eqb (r .key) k)
 keepsRow (Lasting now) r = lasts now (entryOf r)
 
--- those for which the test holds, in order
-unfoldable pub such : {A : Type 0} → (A → Bool) → List A → List A
-such p [] = []
-such p (x ∷ xs) = pick (p x) (x ∷ such p xs) (such p xs)
-
 abbrev pub kept : Keep → List Row → List Row
 kept keep = such (keepsRow keep)
 
@@ -57,7 +49,7 @@ marked (m ∷ ms) (x ∷ xs) = pick m (x ∷ marked ms xs) (marked ms xs)
 
 -- a mark for each row in use
 unfoldable pub marksBy : (Row → Bool) → List Row → Marks
-marksBy p rs = record { keep = padded false (map p rs) }
+marksBy p rs = record { keep = padded capacity false (map p rs) }
 
 -- the rows of other keys
 abbrev pub without : ℕ → List Row → List Row

@@ -3,12 +3,13 @@ use Prim.Native.Nat.{ℕ, zero, suc, _+_, _-_}
 use mathlib.Core.List.{List, [], _∷_, _++_}
 use lib.ListN.{length, take, drop, getD, replicate}
 use lib.Dec.{eqb}
+use Rattle.prelude.specs.Lists.{such}
 use Rattle.prelude.specs.Choice.{pick}
 use Rattle.rows.specs.declared.Row.{Row}
 use Rattle.rows.specs.declared.Table.{Table}
 use Rattle.rows.specs.declared.Table.the-variants.{Dials, Windows, Paths}
 use Rattle.rows.specs.declared.Keep.the-variants.{Below}
-use Rattle.rows.specs.Rows.{capacity, such, kept, notBelow, inserted, crowded}
+use Rattle.rows.specs.Rows.{capacity, kept, notBelow, inserted, crowded}
 
 abbrev pub at : List ℕ → ℕ → ℕ
 at ws i = getD ws i 0

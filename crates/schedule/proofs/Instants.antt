@@ -5,14 +5,15 @@ use mathlib.Core.Path.{_≡_, refl, sym, _∙_, ap}
 use mathlib.Core.Bool.{Bool, true, false}
 use mathlib.Core.List.{List, [], _∷_}
 use Prim.Native.Nat.{ℕ, zero, suc, _+_, _-_, _*_, _/_, _≤_, _<_, min, max}
-use native.Mathlib.Nat.{div-eq-of-lt, div-eq-sub-div, div-le-self, zero-mul, add-zero, le-div-iff-mul-le, div-lt-iff-lt-mul}
+use native.Mathlib.Nat.{div-eq-of-lt, div-eq-sub-div, div-le-self, zero-mul, add-zero, le-div-iff-mul-le, div-lt-iff-lt-mul, zero-add}
 use native.Mathlib.Omega.{arith}
 use borrow.Author.Tests.{leb-true, leb-false, lt-leb, le-leb}
 use lib.ListN.{length, getD, drop, length-drop}
 use lib.Seq.{getD-drop}
 use lib.Dec.{leb}
+use Rattle.prelude.specs.Lists.{count}
 use Rattle.prelude.specs.Choice.{pick}
-use Rattle.schedule.specs.Instants.{upto, instants, countIf, countTo}
+use Rattle.schedule.specs.Instants.{upto, instants, countTo}
 
 pub fits-mul : (a m k : ℕ) → 0 < k → a ≤ m / k → a * k ≤ m
 fits-mul a m k p h = (le-div-iff-mul-le p) .0 h
@@ -92,7 +93,7 @@ drop-instants (suc n) start i e = go (leb start e) refl (drop-instants n (start 
 
 -- those no later than a reading are those of a window that ends there
 early : (m n at i e : ℕ) → countTo m (upto n at i e) ≡ length (upto n at i (min e m))
-unfolding countTo countIf upto
+unfolding countTo count upto
 early m zero at i e = refl
 early m (suc n) at i e = go (leb at e) refl (leb at m) refl (early m n (at + i) i e)
   where
@@ -102,10 +103,10 @@ early m (suc n) at i e = go (leb at e) refl (leb at m) refl (early m n (at + i) 
     go true p true q r =
         let h : at ≤ e = leb-true _ _ p in
         let k : at ≤ m = leb-true _ _ q in
-        rw (q, le-leb at (min e m) (omega arith)) (ap suc r)
+        rw (q, le-leb at (min e m) (omega arith)) (omega (arith, r))
     go true p false q r =
         let k : m < at = leb-false _ _ q in
-        rw (q, lt-leb at (min e m) (omega arith)) (r ∙ ap length (none n (at + i) i (min e m) (omega arith)))
+        rw (q, lt-leb at (min e m) (omega arith)) (zero-add _ ∙ r ∙ ap length (none n (at + i) i (min e m) (omega arith)))
     go false p b q r =
         let k : e < at = leb-false _ _ p in
         rw (lt-leb at (min e m) (omega arith))

@@ -1,8 +1,8 @@
 -- A window's start and its instants (RULES.md, section 9).
 use Prim.Native.Nat.{ℕ, zero, suc, _+_, _/_, max}
 use mathlib.Core.List.{List, [], _∷_}
-use mathlib.Core.Bool.{Bool}
 use lib.Dec.{leb}
+use Rattle.prelude.specs.Lists.{count}
 use Rattle.prelude.specs.Choice.{pick}
 use Rattle.time.specs.Time.{plus}
 
@@ -23,11 +23,6 @@ upto (suc n) at i end = pick (leb at end) (at ∷ upto n (at + i) i end) []
 unfoldable pub instants : ℕ → ℕ → ℕ → List ℕ
 instants start i end = upto (suc end) start (max i 1) end
 
--- how many of a list pass a test
-unfoldable pub countIf : (ℕ → Bool) → List ℕ → ℕ
-countIf p [] = 0
-countIf p (t ∷ ts) = pick (p t) (suc (countIf p ts)) (countIf p ts)
-
 -- how many of a list of instants are no later than a reading
 unfoldable pub countTo : ℕ → List ℕ → ℕ
-countTo at ts = countIf (λ t. leb t at) ts
+countTo at ts = count (λ t. leb t at) ts

@@ -5,8 +5,9 @@ use mathlib.Core.List.{List, [], _∷_, _++_}
 use mathlib.Core.Bool.{Bool, false}
 use lib.ListN.{length, getD, take, drop}
 use lib.Dec.{leb, eqb}
+use Rattle.prelude.specs.Lists.{count}
 use Rattle.prelude.specs.Choice.{both, either}
-use Rattle.schedule.specs.Instants.{instants, countIf}
+use Rattle.schedule.specs.Instants.{instants}
 use Rattle.schedule.specs.Schedule.{ahead, dueOf, openedOf}
 use Rattle.schedule.specs.declared.BlastSchedule.{BlastSchedule}
 
@@ -34,7 +35,7 @@ counts m rtt start t = either (reached m t) (both (eqb rtt 0) (eqb t start))
 
 -- how many instants of a window count
 unfoldable pub counted : ℕ → ℕ → ℕ → ℕ → Largest → ℕ
-counted i start until rtt m = countIf (counts m rtt start) (instants start i until)
+counted i start until rtt m = count (counts m rtt start) (instants start i until)
 
 -- the counts of the answers at the readings, added up
 unfoldable pub sumOf : BlastSchedule → ℕ → List ℕ → ℕ

@@ -1,8 +1,8 @@
 use mathlib.Core.Path.{ap, _∙_}
+use Rattle.prelude.specs.Choice.{bit}
 use Rattle.text.proofs.Printing.{laid, parts, then}
 use Rattle.line_program.proofs.Answers.{renamed}
 use Rattle.budget_calls.proofs.Answering.{state-text}
-use Rattle.budget_calls.specs.Answers.{bit}
 use borrow.Author.Needs.{needs}
 use Rattle.budget_calls.proofs.put_state.Statement.{statement}
 use Rattle.budget_calls.proofs.put_state.Tie as tie

@@ -1,11 +1,11 @@
 use mathlib.Core.Path.{refl}
-use Rattle.rows.specs.Rows.{padded}
+use Rattle.prelude.specs.Lists.{padded}
 use Rattle.dials.specs.Dials.{connectionsOf}
 use Rattle.dials.proofs.no_connections.Statement.{statement}
 use Rattle.dials.proofs.no_connections.Tie as tie
 
 returns : tie.Need-returns
-unfolding connectionsOf padded
+unfolding connectionsOf
 returns c = refl
 
 pub no-connections-spec : {M : Type 1} → statement M

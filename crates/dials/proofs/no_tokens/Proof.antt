@@ -1,11 +1,11 @@
 use mathlib.Core.Path.{refl}
-use Rattle.rows.specs.Rows.{padded}
+use Rattle.prelude.specs.Lists.{padded}
 use Rattle.dials.specs.Dials.{tokensOf}
 use Rattle.dials.proofs.no_tokens.Statement.{statement}
 use Rattle.dials.proofs.no_tokens.Tie as tie
 
 returns : tie.Need-returns
-unfolding tokensOf padded
+unfolding tokensOf
 returns c = refl
 
 pub no-tokens-spec : {M : Type 1} → statement M

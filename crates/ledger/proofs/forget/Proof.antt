@@ -1,10 +1,11 @@
 use Prim.Native.Nat.{ℕ}
 use mathlib.Core.Path.{ap, _∙_}
 use mathlib.Core.List.{List}
+use Rattle.prelude.specs.Lists.{such}
 use Rattle.rows.specs.declared.Row.{Row}
 use Rattle.rows.specs.declared.Table.the-variants.{Dials, Paths}
 use Rattle.rows.specs.declared.Keep.the-variants.{Other}
-use Rattle.rows.specs.Rows.{such, keepsRow}
+use Rattle.rows.specs.Rows.{keepsRow}
 use Rattle.rows.specs.Words.{rowsOf}
 use Rattle.ledger.specs.Ledger.{forgotten, tablesOf}
 use Rattle.ledger.proofs.Laws.{such-64, dials-stay, both-tables, both-words}

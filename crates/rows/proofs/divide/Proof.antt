@@ -6,9 +6,10 @@ use native.Mathlib.Omega.{arith}
 use borrow.Author.Tests.{lt-ltb, le-ltb}
 use lib.ListN.{length, getD, take}
 use lib.Dec.{ltb}
+use Rattle.prelude.specs.Lists.{such}
 use Rattle.rows.specs.declared.Row.{Row}
 use Rattle.rows.specs.declared.Keep.the-variants.{Below}
-use Rattle.rows.specs.Rows.{such, kept}
+use Rattle.rows.specs.Rows.{kept}
 use Rattle.rows.specs.Words.{at, noRow, placesOf, brought, divided}
 use Rattle.rows.proofs.Words.{length-places}
 use Rattle.rows.proofs.Moves.{brought-self, divide-none, divide-length, divide-read, divide-below, divide-above, count-below, count-above}

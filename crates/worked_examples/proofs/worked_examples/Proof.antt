@@ -1,18 +1,18 @@
 -- `worked_examples::worked_examples` meets its contract: each row is computed. Assumes nothing.
 use mathlib.Core.Path.{refl}
+use Rattle.prelude.specs.Lists.{count, such}
 use Rattle.wire.specs.Frame.{frameFrom}
 use Rattle.address.specs.Multiaddr.{bigEndian, hasForm, parsed}
 use Rattle.address.specs.Words.{globalUnicast4, mayBeTarget}
-use Rattle.candidates.specs.Entries.{count, only}
 use Rattle.candidates.specs.Selection.{room, bounded, selected}
 use Rattle.time.specs.Time.{plus}
-use Rattle.schedule.specs.Instants.{halfOf, startOf, upto, instants, countIf, countTo}
+use Rattle.schedule.specs.Instants.{halfOf, startOf, upto, instants, countTo}
 use Rattle.schedule.specs.Schedule.{ahead, without, timesOf, dueOf}
 use Rattle.worked_examples.proofs.worked_examples.Statement.{statement}
 use Rattle.worked_examples.proofs.worked_examples.Tie as tie
 
 returns : tie.Need-returns
-unfolding selected bounded only count room parsed hasForm bigEndian mayBeTarget globalUnicast4 plus halfOf startOf upto instants countIf countTo ahead without timesOf dueOf frameFrom
+unfolding selected bounded such count room parsed hasForm bigEndian mayBeTarget globalUnicast4 plus halfOf startOf upto instants countTo ahead without timesOf dueOf frameFrom
 returns c =
     record {
       anycast = refl;

@@ -1,7 +1,8 @@
 -- `schedule::BlastSchedule::newly_due` meets its contract. Assumes nothing.
 use mathlib.Core.Path.{sym}
+use Rattle.prelude.specs.Lists.{count}
 use Rattle.schedule.specs.Schedule.{dueOf, timesOf, without, ahead}
-use Rattle.schedule.specs.Instants.{countTo, countIf}
+use Rattle.schedule.specs.Instants.{countTo}
 use borrow.Author.Needs.{needs}
 use Rattle.schedule.proofs.BlastSchedule.newly_due.Statement.{statement}
 use Rattle.schedule.proofs.BlastSchedule.newly_due.Tie as tie
@@ -23,7 +24,7 @@ enum-told : tie.Need-enum-told
 enum-told c = search needs
 
 returns-2 : tie.Need-returns-2
-unfolding dueOf timesOf without ahead countTo countIf
+unfolding dueOf timesOf without ahead countTo count
 returns-2 c = simp (c .enum-told .given .1)
 
 pub newly-due-spec : {M : Type 1} → statement M
