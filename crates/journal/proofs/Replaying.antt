@@ -6,6 +6,7 @@ use Prim.Native.Nat.{ℕ, _*_, _<_, _≤_}
 use native.Mathlib.Omega.{arith}
 use lib.Dec.{ltb}
 use lib.ListN.{length, take, replicate, length-append, length-replicate}
+use Rattle.rows.specs.Words.{ledgerWords}
 use Rattle.prelude.specs.Choice.{pick}
 use Rattle.text.specs.Printed.{printed, behind}
 use Rattle.text.proofs.Printing.{laid-none, fits}
@@ -79,7 +80,7 @@ unfolding opening
 good-text l rest n = rw n
 
 -- what is lent is blank at first
-pub blank-lent : {connect targets sent ws : List ℕ} → connect ≡ noFrame → targets ≡ noAims → sent ≡ noFrame → ws ≡ replicate 963 0
+pub blank-lent : {connect targets sent ws : List ℕ} → connect ≡ noFrame → targets ≡ noAims → sent ≡ noFrame → ws ≡ replicate ledgerWords 0
     → tablesOf ws ≡ emptyLedger → (f : First) → whole (stateOf (opened f)) connect targets (tablesOf ws) ws sent ≡ opened f
 unfolding opened newJournal
 blank-lent {connect} {targets} {sent} {ws} a b c d e f =

@@ -6,6 +6,7 @@ ghost use Prim.Native.Nat.{_+_, _*_, _≤_};
 ghost use lib.Dec.{leb};
 ghost use lib.ListN.{length, take, replicate};
 ghost use mathlib.Core.List.{[], _++_};
+ghost use Rattle.rows.specs.Words.{ledgerWords};
 ghost use Rattle.wire.specs.Frame.{maxFrameSize};
 ghost use Rattle.line_program.specs.Reads.{left, hasLine, NextLine};
 ghost use Rattle.journal_prints.specs.Room.{room};
@@ -249,7 +250,7 @@ fn replay(
     reply: &mut [u8],
     out: &mut [u8],
 ) -> Ending
-    requires { ⌜ (longest ≤ length (now line)) × (4 * room ≤ length (now out)) × (now reply ≡ replicate maxFrameSize 0) × (now connect ≡ noFrame) × (now targets ≡ noAims) × (now sent ≡ noFrame) × (now ledger ≡ replicate 963 0) × (tablesOf (now ledger) ≡ emptyLedger) ⌝ }
+    requires { ⌜ (longest ≤ length (now line)) × (4 * room ≤ length (now out)) × (now reply ≡ replicate maxFrameSize 0) × (now connect ≡ noFrame) × (now targets ≡ noAims) × (now sent ≡ noFrame) × (now ledger ≡ replicate ledgerWords 0) × (tablesOf (now ledger) ≡ emptyLedger) ⌝ }
     ensures bound { λ r. ⌜ r .waiting ≤ length (now (out .entry)) ⌝ }
     ensures replayed { λ r. ⌜ Replayed (now (reply .entry)) (now (out .entry)) (now (block .exit)) (λ (s : Numbers). whole s (now (connect .exit)) (now (targets .exit)) (tablesOf (now (ledger .exit))) (now (ledger .exit)) (now (sent .exit))) (now (reply .exit)) (now (out .exit)) r ⌝ }
 {

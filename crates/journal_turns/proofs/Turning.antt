@@ -6,6 +6,7 @@ use mathlib.Core.List.{List}
 use Prim.Native.Nat.{ℕ}
 use lib.Dec.{ltb}
 use lib.ListN.{length}
+use Rattle.rows.specs.Words.{ledgerWords}
 use Rattle.prelude.specs.Choice.{pick, both, no}
 use Rattle.time.specs.Time.{plus}
 use Rattle.refusal.specs.declared.Refusal.{Refusal}
@@ -71,7 +72,7 @@ kept-aims : (c : Core) (targets : List ℕ) (q : Chosen) (why : Refusal) → tar
 unfolding refusedOf targetsAfter
 kept-aims c targets q why = refl
 
-module _ (s : State) (connect targets ws sent : List ℕ) (long : length ws ≡ 963) where
+module _ (s : State) (connect targets ws sent : List ℕ) (long : length ws ≡ ledgerWords) where
   abbrev j : Journal
   j = whole s connect targets (tablesOf ws) ws sent
 

@@ -4,6 +4,7 @@ use mathlib.Core.Bool.{Bool, true, false}
 use mathlib.Core.List.{List}
 use lib.Dec.{ltb}
 use lib.ListN.{length, replicate}
+use Rattle.rows.specs.Words.{ledgerWords}
 use Rattle.prelude.specs.Choice.{pick, both, no}
 use Rattle.time.specs.Time.{plus}
 use Rattle.text.specs.Hexadecimal.{bytesOf}
@@ -112,7 +113,7 @@ newJournal s =
       settings = s;
       circuit = record { core = startedOf (record { 0 = 0 }) (record { 0 = 0 }) (record { 0 = 0 }) s 0 .core; connect = noFrame; targets = noAims };
       ledger = emptyLedger;
-      words = replicate 963 0;
+      words = replicate ledgerWords 0;
       sent = noFrame;
     }
 

@@ -10,7 +10,7 @@ use Rattle.rows.specs.declared.Row.{Row}
 use Rattle.rows.specs.declared.Table.the-variants.{Dials, Windows, Paths}
 use Rattle.prelude.specs.Choice.{no}
 use Rattle.rows.specs.Rows.{inserted, crowded}
-use Rattle.rows.specs.Words.{rowsOf}
+use Rattle.rows.specs.Words.{rowsOf, ledgerWords}
 use Rattle.rows.proofs.Words.{used-is}
 use Rattle.rows.proofs.Lists.{such-≤}
 use Rattle.rows.proofs.Laws.{inserted-fits}
@@ -18,7 +18,7 @@ use Rattle.rows.proofs.Tables.{laid-own, laid-length, laid-rows, laid-before, l
 use Rattle.ledger.specs.Ledger.{PathLedger, tablesOf, laid, withDials, withWindows, withPaths}
 use Rattle.rows.specs.Words as words
 
-module _ (ws : List ℕ) (h : length ws ≡ 963) where
+module _ (ws : List ℕ) (h : length ws ≡ ledgerWords) where
   own-dials : words.laid Dials (rowsOf Dials ws) ws ≡ ws
   own-dials = laid-own 0 ws (omega arith)
 
@@ -33,7 +33,7 @@ module _ (ws : List ℕ) (h : length ws ≡ 963) where
   unfolding laid
   laid-same = rw (own-paths, own-windows) own-dials
 
-module _ (ws : List ℕ) (h : length ws ≡ 963) (rs : List Row) (k : length rs ≤ 64) where
+module _ (ws : List ℕ) (h : length ws ≡ ledgerWords) (rs : List Row) (k : length rs ≤ 64) where
   -- ---- dials
   pub dials-tables : tablesOf (words.laid Dials rs ws) ≡ withDials (tablesOf ws) rs
   dials-tables = rw (laid-rows 0 ws (omega arith) rs k, laid-behind 0 ws (omega arith) rs k 321 (omega arith), laid-behind 0 ws (omega arith) rs k 642 (omega arith)) refl
@@ -50,7 +50,7 @@ module _ (ws : List ℕ) (h : length ws ≡ 963) (rs : List Row) (k : length rs 
   unfolding laid
   windows-words =
       let after = words.laid Windows rs ws in
-      let n : length after ≡ 963 = laid-length 321 ws (omega arith) rs k ∙ h in
+      let n : length after ≡ ledgerWords = laid-length 321 ws (omega arith) rs k ∙ h in
       let e : rowsOf Dials ws ≡ rowsOf Dials after = sym (laid-before 321 ws (omega arith) rs k 0 (omega arith)) in
       rw (own-paths ws h) (sym (ap (λ (qs : List Row). words.laid Dials qs after) e ∙ own-dials after n))
 
@@ -58,7 +58,7 @@ module _ (ws : List ℕ) (h : length ws ≡ 963) (rs : List Row) (k : length rs 
   pub paths-tables : tablesOf (words.laid Paths rs ws) ≡ withPaths (tablesOf ws) rs
   paths-tables = rw (laid-before 642 ws (omega arith) rs k 0 (omega arith), laid-before 642 ws (omega arith) rs k 321 (omega arith), laid-rows 642 ws (omega arith) rs k) refl
 
-  paths-length : length (words.laid Paths rs ws) ≡ 963
+  paths-length : length (words.laid Paths rs ws) ≡ ledgerWords
   paths-length = laid-length 642 ws (omega arith) rs k ∙ h
 
   windows-stay : words.laid Windows (rowsOf Windows ws) (words.laid Paths rs ws) ≡ words.laid Paths rs ws
@@ -100,7 +100,7 @@ pub no-false : (t : Bool) → no t ≡ false → t ≡ true
 no-false true e = refl
 no-false false e = sym e
 
-module _ (ws : List ℕ) (h : length ws ≡ 963) (row : Row) {out : List ℕ} where
+module _ (ws : List ℕ) (h : length ws ≡ ledgerWords) (row : Row) {out : List ℕ} where
   same : out ≡ ws → (tablesOf out ≡ tablesOf ws) × (out ≡ laid (tablesOf ws) ws)
   same e = (ap tablesOf e, e ∙ sym (laid-same ws h))
 
@@ -135,7 +135,7 @@ module _ (ws : List ℕ) (h : length ws ≡ 963) (row : Row) {out : List ℕ} wh
   paths-full e f = same ((rw e at f) ∙ own-paths ws h)
 
 -- ---- rows that are dropped
-module _ (ws : List ℕ) (h : length ws ≡ 963) (p : Row → Bool) where
+module _ (ws : List ℕ) (h : length ws ≡ ledgerWords) (p : Row → Bool) where
   pub such-64 : (b : ℕ) → length (such p (words.rowsFrom b ws)) ≤ 64
   such-64 b = omega (arith, such-≤ p (words.rowsFrom b ws), used-is b ws)
 
@@ -147,11 +147,11 @@ module _ (ws : List ℕ) (h : length ws ≡ 963) (p : Row → Bool) where
     windows-such f = (ap tablesOf f ∙ windows-tables ws h (such p (rowsOf Windows ws)) (such-64 321), f ∙ windows-words ws h (such p (rowsOf Windows ws)) (such-64 321))
 
 -- ---- the law: tables that are laid are those of the words
-pub tables-laid : (ws : List ℕ) → length ws ≡ 963 → (l : PathLedger) → length (l .dials) ≤ 64 → length (l .windows) ≤ 64 → length (l .paths) ≤ 64 → tablesOf (laid l ws) ≡ l
+pub tables-laid : (ws : List ℕ) → length ws ≡ ledgerWords → (l : PathLedger) → length (l .dials) ≤ 64 → length (l .windows) ≤ 64 → length (l .paths) ≤ 64 → tablesOf (laid l ws) ≡ l
 unfolding laid
 tables-laid ws h l d w p =
     let w1 = words.laid Paths (l .paths) ws in
-    let n1 : length w1 ≡ 963 = laid-length 642 ws (omega arith) (l .paths) p ∙ h in
+    let n1 : length w1 ≡ ledgerWords = laid-length 642 ws (omega arith) (l .paths) p ∙ h in
     let w2 = words.laid Windows (l .windows) w1 in
-    let n2 : length w2 ≡ 963 = laid-length 321 w1 (omega arith) (l .windows) w ∙ n1 in
+    let n2 : length w2 ≡ ledgerWords = laid-length 321 w1 (omega arith) (l .windows) w ∙ n1 in
     dials-tables w2 n2 (l .dials) d ∙ ap (λ (x : PathLedger). withDials x (l .dials)) (windows-tables w1 n1 (l .windows) w ∙ ap (λ (x : PathLedger). withWindows x (l .windows)) (paths-tables ws h (l .paths) p))

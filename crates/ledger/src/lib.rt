@@ -2,6 +2,7 @@
 // lends it as words; any words are a ledger.
 ghost use mathlib.Core.Path.{_≡_};
 ghost use lib.ListN.{replicate};
+ghost use Rattle.rows.specs.Words.{ledgerWords};
 ghost use Rattle.ledger.specs.Ledger.{emptyLedger, tablesOf, laid, dialStarted, finishDial, abortedWith, refusesPunches, expectPunches, endPunches, judgedBy, attributed, replacedBy, forgotten, isPunched, ticked, nextDeadline, isQuiet};
 use dials::Dropped;
 use dials::Firsts;
@@ -34,7 +35,7 @@ pub enum Answer {
 // No row in any table.
 pub fn empty() -> Ledger
     ensures tables { λ r. ⌜ tablesOf r ≡ emptyLedger ⌝ }
-    ensures words { λ r. ⌜ r ≡ replicate 963 0 ⌝ }
+    ensures words { λ r. ⌜ r ≡ replicate ledgerWords 0 ⌝ }
 {
     rows::empty()
 }

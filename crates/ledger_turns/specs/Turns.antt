@@ -3,6 +3,7 @@
 use Prim.Native.Nat.{ℕ}
 use mathlib.Core.List.{List}
 use lib.ListN.{replicate}
+use Rattle.rows.specs.Words.{ledgerWords}
 use Rattle.path.specs.declared.FoundDial.{FoundDial}
 use Rattle.path.specs.declared.FoundPath.{FoundPath}
 use Rattle.path.specs.declared.Replaced.{Replaced}
@@ -92,7 +93,7 @@ turnOf l call.Bad = saying l said.Bad
 
 -- the ledger's words after a call: a new ledger is zeros
 unfoldable pub wordsAfter : List ℕ → Call → List ℕ
-wordsAfter ws call.Empty = replicate 963 0
+wordsAfter ws call.Empty = replicate ledgerWords 0
 wordsAfter ws (call.Dial conn token purpose) = laid (turnOf (tablesOf ws) (call.Dial conn token purpose) .ledger) ws
 wordsAfter ws (call.Finish conn) = laid (turnOf (tablesOf ws) (call.Finish conn) .ledger) ws
 wordsAfter ws (call.Expect peer until) = laid (turnOf (tablesOf ws) (call.Expect peer until) .ledger) ws

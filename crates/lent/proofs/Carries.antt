@@ -8,6 +8,7 @@ use native.Mathlib.Omega.{arith}
 use borrow.Author.Tests.{lt-ltb, le-ltb}
 use lib.ListN.{length, drop-of-length-le}
 use lib.Seq.{sets}
+use Rattle.rows.specs.Words.{ledgerWords}
 use Rattle.prelude.specs.Choice.{pick, both}
 use Rattle.ids.specs.declared.PeerId.{PeerId}
 use Rattle.ids.specs.declared.StreamId.{StreamId}
@@ -85,7 +86,7 @@ module _ (t : Terms) (own : List ℕ) (d : Decision) where
 -- ---- the ledger's window
 
 module _ (source : PeerId) (ws : List ℕ) {w : Fate} where
-  pub window-kept : length ws ≡ 963 → w ≡ Kept
+  pub window-kept : length ws ≡ ledgerWords → w ≡ Kept
       → (tablesOf ws ≡ ledgerAfter source (tablesOf ws) w) × (ws ≡ laid (ledgerAfter source (tablesOf ws) w) ws)
   unfolding ledgerAfter
   window-kept h e = rw e (refl, sym (laid-same ws h))

@@ -1,5 +1,5 @@
 -- The three tables as words (RULES.md, section 10.9). Every list of words has a meaning.
-use Prim.Native.Nat.{ℕ, zero, suc, _+_, _-_}
+use Prim.Native.Nat.{ℕ, zero, suc, _+_, _*_, _-_}
 use mathlib.Core.List.{List, [], _∷_, _++_}
 use lib.ListN.{length, take, drop, getD, replicate}
 use lib.Dec.{eqb}
@@ -33,12 +33,15 @@ noRow = record { key = 0; kind = 0; a = 0; b = 0; c = 0 }
 -- ---- a table that begins at b: the count of its rows in use, and its places
 -- the count, and five words for each row
 abbrev pub tableWords : ℕ
-tableWords = 321
+tableWords = 1 + 5 * capacity
 
 abbrev pub startOf : Table → ℕ
 startOf Dials = 0
-startOf Windows = 321
-startOf Paths = 642
+startOf Windows = tableWords
+startOf Paths = 2 * tableWords
+
+abbrev pub ledgerWords : ℕ
+ledgerWords = 3 * tableWords
 
 unfoldable pub placesOf : ℕ → List ℕ → List Row
 placesOf b l = rowsIn capacity (drop (b + 1) l)

@@ -5,11 +5,12 @@ ghost use mathlib.Core.List.{_++_, _∷_, []};
 ghost use Prim.Native.Nat.{ℕ, _≤_, _<_, _+_, _-_};
 ghost use lib.ListN.{length, set, getD, take, drop, replicate};
 ghost use Rattle.prelude.specs.Choice.{pick, no};
-ghost use Rattle.rows.specs.Rows.{keepsRow, kept, findIn, without, inserted, crowded, marked, marksBy, notBelow};
+ghost use Rattle.rows.specs.Rows.{capacity, keepsRow, kept, findIn, without, inserted, crowded, marked, marksBy, notBelow};
 ghost use Rattle.rows.specs.declared.Entry.{Entry};
 ghost use Rattle.rows.specs.declared.Keep.the-variants.{Below};
+ghost use Rattle.rows.specs.declared.Table.the-variants.{Paths};
 ghost use Rattle.rows.specs.Kinds.{entryOf, rowOf, keyed, dialNumbers, ownedNumbers, pathNumbers, dialed as dialedEntry, owned as ownedEntry};
-ghost use Rattle.rows.specs.Words.{at, noRow, startOf, placesOf, rowsFrom, rowsOf, tabled, filled, brought, divided, countWord, laidFrom, laid, entered};
+ghost use Rattle.rows.specs.Words.{at, noRow, startOf, ledgerWords, placesOf, rowsFrom, rowsOf, tabled, filled, brought, divided, countWord, laidFrom, laid, entered};
 use ids::ConnectId;
 use ids::NatToken;
 use ids::PeerId;
@@ -315,15 +316,15 @@ fn size(s: &[u64]) -> usize
     s.len()
 }
 
-// A ledger has 963 words: a fact for the proofs.
+// How many words a ledger has: a fact for the proofs.
 pub fn known(l: &Ledger)
-    ensures { λ r. ⌜ length (now (l .entry)) ≡ 963 ⌝ }
+    ensures { λ r. ⌜ length (now (l .entry)) ≡ ledgerWords ⌝ }
 {
     size(l);
 }
 
 fn start_of(table: Table) -> usize
-    ensures { λ r. ⌜ (r ≡ startOf table) × (r ≤ 642) ⌝ }
+    ensures { λ r. ⌜ (r ≡ startOf table) × (r ≤ startOf Paths) ⌝ }
 {
     match table {
         Table::Dials => 0,
@@ -333,8 +334,8 @@ fn start_of(table: Table) -> usize
 }
 
 fn count(l: &Ledger, b: usize) -> usize
-    requires { ⌜ b ≤ 642 ⌝ }
-    ensures { λ r. ⌜ (r ≡ length (rowsFrom b (now (l .entry)))) × (r ≤ 64) ⌝ }
+    requires { ⌜ b ≤ startOf Paths ⌝ }
+    ensures { λ r. ⌜ (r ≡ length (rowsFrom b (now (l .entry)))) × (r ≤ capacity) ⌝ }
 {
     let n = l[b];
     if n < ROWS as u64 {
@@ -344,14 +345,14 @@ fn count(l: &Ledger, b: usize) -> usize
 }
 
 fn key_at(l: &Ledger, b: usize, i: usize) -> u64
-    requires { ⌜ (b ≤ 642) × (i < 64) ⌝ }
+    requires { ⌜ (b ≤ startOf Paths) × (i < capacity) ⌝ }
     ensures { λ r. ⌜ r ≡ getD (placesOf b (now (l .entry))) i noRow .key ⌝ }
 {
     l[b + 1 + 5 * i]
 }
 
 fn read(l: &Ledger, b: usize, i: usize) -> Row
-    requires { ⌜ (b ≤ 642) × (i < 64) ⌝ }
+    requires { ⌜ (b ≤ startOf Paths) × (i < capacity) ⌝ }
     ensures { λ r. ⌜ r ≡ getD (placesOf b (now (l .entry))) i noRow ⌝ }
 {
     let p = b + 1 + 5 * i;
@@ -365,7 +366,7 @@ fn read(l: &Ledger, b: usize, i: usize) -> Row
 }
 
 fn write(l: &mut Ledger, b: usize, i: usize, row: Row)
-    requires { ⌜ (b ≤ 642) × (i < 64) ⌝ }
+    requires { ⌜ (b ≤ startOf Paths) × (i < capacity) ⌝ }
     ensures { λ r. ⌜ now (l .exit) ≡ tabled b (at (now (l .entry)) b) (set (placesOf b (now (l .entry))) i row) (now (l .entry)) ⌝ }
 {
     known(l);
@@ -379,7 +380,7 @@ fn write(l: &mut Ledger, b: usize, i: usize, row: Row)
 
 // The row at k comes to i; those from i on, up to it, move one up.
 fn bring(l: &mut Ledger, b: usize, i: usize, k: usize)
-    requires { ⌜ (b ≤ 642) × (i ≤ k) × (k < 64) ⌝ }
+    requires { ⌜ (b ≤ startOf Paths) × (i ≤ k) × (k < capacity) ⌝ }
     ensures { λ r. ⌜ now (l .exit) ≡ tabled b (at (now (l .entry)) b) (brought (placesOf b (now (l .entry))) i k) (now (l .entry)) ⌝ }
 {
     known(l);
@@ -395,7 +396,7 @@ fn bring(l: &mut Ledger, b: usize, i: usize, k: usize)
 
 // Of the first n places, the rows below the key come first. Answers how many they are.
 fn divide(l: &mut Ledger, b: usize, n: usize, key: u64) -> usize
-    requires { ⌜ (b ≤ 642) × (n < 64) ⌝ }
+    requires { ⌜ (b ≤ startOf Paths) × (n < capacity) ⌝ }
     ensures count { λ r. ⌜ (r ≡ length (kept (Below key) (take n (placesOf b (now (l .entry)))))) × (r ≤ n) ⌝ }
     ensures words { λ r. ⌜ now (l .exit) ≡ tabled b (at (now (l .entry)) b) (divided key n (placesOf b (now (l .entry)))) (now (l .entry)) ⌝ }
 {
@@ -418,7 +419,7 @@ fn divide(l: &mut Ledger, b: usize, n: usize, key: u64) -> usize
 
 // The marked rows move to the front. Answers how many they are.
 fn pack(l: &mut Ledger, b: usize, marks: Marks) -> usize
-    requires { ⌜ b ≤ 642 ⌝ }
+    requires { ⌜ b ≤ startOf Paths ⌝ }
     ensures count { λ r. ⌜ (r ≡ length (marked (marks .keep) (rowsFrom b (now (l .entry))))) × (r ≤ length (rowsFrom b (now (l .entry)))) ⌝ }
     ensures words { λ r. ⌜ now (l .exit) ≡ tabled b (at (now (l .entry)) b) (filled (marked (marks .keep) (rowsFrom b (now (l .entry)))) (placesOf b (now (l .entry)))) (now (l .entry)) ⌝ }
 {
@@ -443,7 +444,7 @@ fn pack(l: &mut Ledger, b: usize, marks: Marks) -> usize
 
 // Zeros in the places from m on, up to n, and the count m where it was n.
 fn settle(l: &mut Ledger, b: usize, n: usize, m: usize)
-    requires { ⌜ (b ≤ 642) × (n ≤ 64) × (m ≤ 64) ⌝ }
+    requires { ⌜ (b ≤ startOf Paths) × (n ≤ capacity) × (m ≤ capacity) ⌝ }
     ensures { λ r. ⌜ now (l .exit) ≡ tabled b (countWord (at (now (l .entry)) b) n m) (take m (placesOf b (now (l .entry))) ++ (replicate (n - m) noRow ++ drop (m + (n - m)) (placesOf b (now (l .entry))))) (now (l .entry)) ⌝ }
 {
     known(l);
@@ -461,7 +462,7 @@ fn settle(l: &mut Ledger, b: usize, n: usize, m: usize)
 // ---- the calls, over a table that begins at b
 
 fn find_from(l: &Ledger, b: usize, key: u64) -> Found
-    requires { ⌜ b ≤ 642 ⌝ }
+    requires { ⌜ b ≤ startOf Paths ⌝ }
     ensures { λ r. ⌜ r ≡ findIn key (rowsFrom b (now (l .entry))) ⌝ }
 {
     let n = count(l, b);
@@ -476,7 +477,7 @@ fn find_from(l: &Ledger, b: usize, key: u64) -> Found
 }
 
 fn is_crowded_from(l: &Ledger, b: usize, key: u64) -> bool
-    requires { ⌜ b ≤ 642 ⌝ }
+    requires { ⌜ b ≤ startOf Paths ⌝ }
     ensures { λ r. ⌜ r ≡ crowded key (rowsFrom b (now (l .entry))) ⌝ }
 {
     if count(l, b) < ROWS {
@@ -490,7 +491,7 @@ fn is_crowded_from(l: &Ledger, b: usize, key: u64) -> bool
 }
 
 fn marks_from(l: &Ledger, b: usize, keep: Keep) -> Marks
-    requires { ⌜ b ≤ 642 ⌝ }
+    requires { ⌜ b ≤ startOf Paths ⌝ }
     ensures { λ r. ⌜ r ≡ marksBy (keepsRow keep) (rowsFrom b (now (l .entry))) ⌝ }
 {
     let n = count(l, b);
@@ -506,7 +507,7 @@ fn marks_from(l: &Ledger, b: usize, keep: Keep) -> Marks
 }
 
 fn retain_from(l: &mut Ledger, b: usize, marks: Marks)
-    requires { ⌜ b ≤ 642 ⌝ }
+    requires { ⌜ b ≤ startOf Paths ⌝ }
     ensures { λ r. ⌜ now (l .exit) ≡ laidFrom b (marked (marks .keep) (rowsFrom b (now (l .entry)))) (now (l .entry)) ⌝ }
 {
     known(l);
@@ -517,7 +518,7 @@ fn retain_from(l: &mut Ledger, b: usize, marks: Marks)
 
 // The rows of the row's key go; the others are divided at it, and it comes between them.
 fn insert_from(l: &mut Ledger, b: usize, row: Row) -> bool
-    requires { ⌜ b ≤ 642 ⌝ }
+    requires { ⌜ b ≤ startOf Paths ⌝ }
     ensures answer { λ r. ⌜ r ≡ no (crowded (row .key) (rowsFrom b (now (l .entry)))) ⌝ }
     ensures words { λ r. ⌜ now (l .exit) ≡ laidFrom b (entered row (rowsFrom b (now (l .entry)))) (now (l .entry)) ⌝ }
 {
@@ -539,14 +540,14 @@ fn insert_from(l: &mut Ledger, b: usize, row: Row) -> bool
 
 // No row in use, and zeros.
 pub fn empty() -> Ledger
-    ensures { λ r. ⌜ r ≡ replicate 963 0 ⌝ }
+    ensures { λ r. ⌜ r ≡ replicate ledgerWords 0 ⌝ }
 {
     [0u64; 3 * TABLE_WORDS]
 }
 
 // How many rows are in use.
 pub fn used(l: &Ledger, table: Table) -> usize
-    ensures { λ r. ⌜ (r ≡ length (rowsOf table (now (l .entry)))) × (r ≤ 64) ⌝ }
+    ensures { λ r. ⌜ (r ≡ length (rowsOf table (now (l .entry)))) × (r ≤ capacity) ⌝ }
 {
     count(l, start_of(table))
 }

@@ -45,7 +45,7 @@ use denote.Triple.Walked.{Stays, gave-ref, stay-dropped, walkOf, goes-gave-ref, 
 use denote.Triple.Clauses.{ensured, lasts}
 use denote.Exit.{yes}
 use Rattle.rows.specs.declared.Table.the-variants.{Dials}
-use Rattle.rows.specs.Words.{rowsOf}
+use Rattle.rows.specs.Words.{rowsOf, ledgerWords}
 use Rattle.ledger.specs.Ledger.{Aborted, laid, abortedWith, abortedDials, tablesOf as ledger-tables}
 use Rattle.live_dials.specs.First.{firstsOf, firstLive}
 use Rattle.live_dials.specs.Asking.{askedRows}
@@ -86,7 +86,7 @@ use Rattle.live_dials.proofs.abort_attempt_dials.Statement as stated
 use Rattle.live_dials.proofs.abort_attempt_dials.Code as code
 
 abbrev Words : RattleType
-Words = Array u64 963
+Words = Array u64 ledgerWords
 
 abbrev stayed : Stays (this.ended .signature .params) (this.ended .kept)
 stayed = (gave-ref (0 ∷ []) tt (plain (λ _. Words)), (stay-dropped (plain (λ _. ConnectId·.the-row)) yes, (stay-dropped (plain (λ _. PeerId·.the-row)) yes, (stay-dropped (shrSliceOf (1 ∷ []) tt (plain (λ _. Live·.the-row))) yes, tt))))

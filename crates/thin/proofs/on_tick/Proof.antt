@@ -43,6 +43,7 @@ use denote.Triple.Table.{entered, cited}
 use denote.Triple.Walked.{Stays, stay-ref, gave-ref, stay-dropped, walkOf, goes-ref, goes-gave-ref, goes-dropped, Walks, ends-at, walked, walk-meets}
 use denote.Triple.Clauses.{ensured, lasts}
 use denote.Exit.{yes}
+use Rattle.rows.specs.Words.{ledgerWords}
 use Rattle.ledger.specs.Ledger.{PathLedger, laid, tablesOf as ledger-tables}
 use Rattle.inbound.specs.Circuits.{tickAnswer, ledgerBehind}
 use Rattle.vocabulary.specs.declared.Host.{Host}
@@ -66,7 +67,7 @@ use Rattle.thin.proofs.on_tick.Statement as stated
 use Rattle.thin.proofs.on_tick.Code as code
 
 abbrev Words : RattleType
-Words = Array u64 963
+Words = Array u64 ledgerWords
 
 abbrev stayed : Stays (this.ended .signature .params) (this.ended .kept)
 stayed = (stay-ref (0 ∷ []) tt (plain (λ _. InboundCircuit·.the-row)), (gave-ref (1 ∷ []) tt (plain (λ _. Words)), (stay-dropped (plain (λ _. Host·.the-row)) yes, (stay-dropped (shrSliceOf (2 ∷ []) tt (plain (λ _. u8))) yes, tt))))
