@@ -1,9 +1,5 @@
 pub mod State
 pub mod Decisions
 pub mod Refusals
-pub mod Rounds
-pub mod Ticks
-pub mod Ups
-pub mod Inputs
 pub mod Calls
 pub mod Questions

@@ -5,7 +5,6 @@ use mathlib.Core.Bool.{Bool, false}
 use mathlib.Core.List.{List, [], _∷_, _++_, map}
 use native.Mathlib.Omega.{arith}
 use lib.ListN.{length, getD, take, set, replicate}
-use Rattle.prelude.specs.Lists.{padded}
 use Rattle.prelude.specs.Choice.{pick}
 use Rattle.ids.specs.declared.ConnectId.{ConnectId}
 use Rattle.rows.specs.declared.Row.{Row}

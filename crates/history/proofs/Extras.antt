@@ -37,9 +37,9 @@ use Rattle.lent.specs.Carried as carried
 use Rattle.inbound.specs.Circuits.{answerOf, plainly, upAnswer, tickAnswer, inputAnswer, wroteAnswer, downAnswer}
 use Rattle.lent.specs.Brought.{Brought, unfinished, failed, connect}
 use Rattle.circuit.specs.Refusals.{checkOf}
-use Rattle.circuit.specs.Ups.{establishedAt, connectedOf, tookOf, taking, upAt}
-use Rattle.circuit.specs.Inputs.{inputAt}
-use Rattle.circuit.specs.Ticks.{tickAt}
+use Rattle.upgrade.specs.Ups.{establishedAt, connectedOf, tookOf, taking, upAt}
+use Rattle.upgrade.specs.Inputs.{inputAt}
+use Rattle.upgrade.specs.Ticks.{tickAt}
 use Rattle.circuit.specs.Calls.{unless, wroteAt, wroteOf, downOf}
 use Rattle.lent.specs.Calls.{upIn, tickIn, peeked, hearing, inputIn}
 use Rattle.circuit.specs.State.{doneOf, isDone}

@@ -41,9 +41,9 @@ use Rattle.circuit.specs.Decisions.{silence, eventOf, resetOf, burstOf, decided
 use Rattle.lent.specs.Carried.{messageOf, targetsAfter, ledgerAfter}
 use Rattle.lent.specs.Carried as carried
 use Rattle.circuit.specs.State.{inPhase, doneOf, exchangingOf}
-use Rattle.circuit.specs.Rounds.{isLive, noRound, openStream, openRound, failRound}
-use Rattle.circuit.specs.Ticks.{tickHandshaking, stopped, tickExchange, dueBurst, tickPunching, tickAt}
-use Rattle.circuit.specs.Ups.{upgradedOf, announced, establishedAt, connectedOf, tookOf, taking, upAt}
+use Rattle.upgrade.specs.Rounds.{isLive, noRound, openStream, openRound, failRound}
+use Rattle.upgrade.specs.Ticks.{tickHandshaking, stopped, tickExchange, dueBurst, tickPunching, tickAt}
+use Rattle.upgrade.specs.Ups.{upgradedOf, announced, establishedAt, connectedOf, tookOf, taking, upAt}
 use Rattle.history.specs.Calls.{isRefused}
 use Rattle.history.specs.Book.{Window, Stage, handshaking, asking, within, Book, armed}
 use Rattle.history.specs.Tells.{Says, path, burst, upgrade, close, reset, opens, removed, Told, only, nothing, opening, wants, isNone, blast, newly, tickTells, upTells}

@@ -17,7 +17,7 @@ use Rattle.circuit.specs.declared.state.Phase.{Phase}
 use Rattle.circuit.specs.declared.decision.Decision.{Decision}
 use Rattle.inbound.specs.declared.InboundCircuit.{InboundCircuit}
 use Rattle.circuit.specs.Decisions.{decidedOf, quietOf, refusedOf}
-use Rattle.circuit.specs.Ups.{tookOf}
+use Rattle.upgrade.specs.Ups.{tookOf}
 use Rattle.circuit.specs.Calls.{wroteOf, downOf}
 use Rattle.inbound.specs.Circuits.{answerOf, wroteAnswer, downAnswer}
 use Rattle.history.specs.Calls.{Call, up, input, tick, wrote, down, answerTo, isRefused, stepOf}

@@ -22,9 +22,9 @@ use Rattle.lent.specs.declared.reply.Peeked.{Peeked}
 use Rattle.circuit.specs.State.{termsOf}
 use Rattle.circuit.specs.Decisions.{refusedOf}
 use Rattle.circuit.specs.Refusals.{checkOf}
-use Rattle.circuit.specs.Ticks.{tickAt}
-use Rattle.circuit.specs.Ups.{upAt}
-use Rattle.circuit.specs.Inputs.{inputAt, awaits, frameBytes}
+use Rattle.upgrade.specs.Ticks.{tickAt}
+use Rattle.upgrade.specs.Ups.{upAt}
+use Rattle.upgrade.specs.Inputs.{inputAt, awaits, frameBytes}
 use Rattle.lent.specs.Brought.{broughtBy}
 use Rattle.lent.specs.Replies.{peekedOf}
 use Rattle.lent.specs.Carried.{framedBy}

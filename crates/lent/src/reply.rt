@@ -1,8 +1,8 @@
 // What an input's bytes bring of the reply, read before one of them is stored: a call that needs a 65th row can still be turned back.
 use candidates::Chosen;
 use candidates::Terms;
-use circuit::input::Heard;
 use initiator::Reply;
+use upgrade::input::Heard;
 ghost use mathlib.Core.Path.{_≡_};
 ghost use Rattle.lent.specs.Brought.{broughtBy};
 ghost use Rattle.lent.specs.Replies.{noList, chosenFrom, peekedOf};

@@ -1,7 +1,7 @@
 -- The peers that the rows of a table of dials ask for (RULES.md, section 10.4).
--- one for each row; the target behind them
 use mathlib.Core.List.{List, map}
 use Rattle.prelude.specs.Lists.{padded}
+use Rattle.rows.specs.Rows.{capacity}
 use Rattle.ids.specs.declared.PeerId.{PeerId}
 use Rattle.rows.specs.declared.Row.{Row}
 use Rattle.dials.specs.Dials.{askedOf}
@@ -10,6 +10,7 @@ use Rattle.live_dials.specs.declared.Asked.{Asked}
 use Rattle.live_dials.specs.declared.Live.{Live}
 use Rattle.live_dials.specs.First.{firstsOf}
 
+-- one for each row; the target behind them
 unfoldable pub askedRows : List Row → PeerId → Asked
 askedRows rs target = record { peers = padded capacity target (map (askedOf target) rs) }
 

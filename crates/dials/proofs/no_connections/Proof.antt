@@ -1,5 +1,4 @@
 use mathlib.Core.Path.{refl}
-use Rattle.prelude.specs.Lists.{padded}
 use Rattle.dials.specs.Dials.{connectionsOf}
 use Rattle.dials.proofs.no_connections.Statement.{statement}
 use Rattle.dials.proofs.no_connections.Tie as tie

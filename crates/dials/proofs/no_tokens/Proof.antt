@@ -1,5 +1,4 @@
 use mathlib.Core.Path.{refl}
-use Rattle.prelude.specs.Lists.{padded}
 use Rattle.dials.specs.Dials.{tokensOf}
 use Rattle.dials.proofs.no_tokens.Statement.{statement}
 use Rattle.dials.proofs.no_tokens.Tie as tie

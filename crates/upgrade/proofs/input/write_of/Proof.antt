@@ -1,0 +1,14 @@
+use Rattle.upgrade.specs.Inputs.{writeOf}
+use Rattle.upgrade.proofs.input.write_of.Statement.{statement}
+use Rattle.upgrade.proofs.input.write_of.Tie as tie
+
+returns : tie.Need-returns
+unfolding writeOf
+returns c = simp (c .if1 .taken)
+
+returns-2 : tie.Need-returns-2
+unfolding writeOf
+returns-2 c = simp (c .if1 .left)
+
+pub write-of-spec : {M : Type 1} → statement M
+write-of-spec = tie.close (tie.spec returns returns-2)

@@ -1,0 +1,4 @@
+pub mod Rounds
+pub mod Ticks
+pub mod Ups
+pub mod Inputs
