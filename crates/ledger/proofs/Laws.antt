@@ -10,7 +10,7 @@ use Rattle.rows.specs.declared.Row.{Row}
 use Rattle.rows.specs.declared.Table.the-variants.{Dials, Windows, Paths}
 use Rattle.prelude.specs.Choice.{no}
 use Rattle.rows.specs.Rows.{inserted, crowded}
-use Rattle.rows.specs.Words.{rowsOf, ledgerWords}
+use Rattle.rows.specs.Words.{rowsOf, ledgerWords, startOf}
 use Rattle.rows.proofs.Words.{used-is}
 use Rattle.rows.proofs.Lists.{such-≤}
 use Rattle.rows.proofs.Laws.{inserted-fits}
@@ -23,10 +23,10 @@ module _ (ws : List ℕ) (h : length ws ≡ ledgerWords) where
   own-dials = laid-own 0 ws (omega arith)
 
   own-windows : words.laid Windows (rowsOf Windows ws) ws ≡ ws
-  own-windows = laid-own 321 ws (omega arith)
+  own-windows = laid-own (startOf Windows) ws (omega arith)
 
   own-paths : words.laid Paths (rowsOf Paths ws) ws ≡ ws
-  own-paths = laid-own 642 ws (omega arith)
+  own-paths = laid-own (startOf Paths) ws (omega arith)
 
   -- the tables as they are change no word
   pub laid-same : laid (tablesOf ws) ws ≡ ws
@@ -36,7 +36,7 @@ module _ (ws : List ℕ) (h : length ws ≡ ledgerWords) where
 module _ (ws : List ℕ) (h : length ws ≡ ledgerWords) (rs : List Row) (k : length rs ≤ 64) where
   -- ---- dials
   pub dials-tables : tablesOf (words.laid Dials rs ws) ≡ withDials (tablesOf ws) rs
-  dials-tables = rw (laid-rows 0 ws (omega arith) rs k, laid-behind 0 ws (omega arith) rs k 321 (omega arith), laid-behind 0 ws (omega arith) rs k 642 (omega arith)) refl
+  dials-tables = rw (laid-rows 0 ws (omega arith) rs k, laid-behind 0 ws (omega arith) rs k (startOf Windows) (omega arith), laid-behind 0 ws (omega arith) rs k (startOf Paths) (omega arith)) refl
 
   pub dials-words : words.laid Dials rs ws ≡ laid (withDials (tablesOf ws) rs) ws
   unfolding laid
@@ -44,31 +44,31 @@ module _ (ws : List ℕ) (h : length ws ≡ ledgerWords) (rs : List Row) (k : le
 
   -- ---- windows
   pub windows-tables : tablesOf (words.laid Windows rs ws) ≡ withWindows (tablesOf ws) rs
-  windows-tables = rw (laid-before 321 ws (omega arith) rs k 0 (omega arith), laid-rows 321 ws (omega arith) rs k, laid-behind 321 ws (omega arith) rs k 642 (omega arith)) refl
+  windows-tables = rw (laid-before (startOf Windows) ws (omega arith) rs k 0 (omega arith), laid-rows (startOf Windows) ws (omega arith) rs k, laid-behind (startOf Windows) ws (omega arith) rs k (startOf Paths) (omega arith)) refl
 
   pub windows-words : words.laid Windows rs ws ≡ laid (withWindows (tablesOf ws) rs) ws
   unfolding laid
   windows-words =
       let after = words.laid Windows rs ws in
-      let n : length after ≡ ledgerWords = laid-length 321 ws (omega arith) rs k ∙ h in
-      let e : rowsOf Dials ws ≡ rowsOf Dials after = sym (laid-before 321 ws (omega arith) rs k 0 (omega arith)) in
+      let n : length after ≡ ledgerWords = laid-length (startOf Windows) ws (omega arith) rs k ∙ h in
+      let e : rowsOf Dials ws ≡ rowsOf Dials after = sym (laid-before (startOf Windows) ws (omega arith) rs k 0 (omega arith)) in
       rw (own-paths ws h) (sym (ap (λ (qs : List Row). words.laid Dials qs after) e ∙ own-dials after n))
 
   -- ---- paths
   pub paths-tables : tablesOf (words.laid Paths rs ws) ≡ withPaths (tablesOf ws) rs
-  paths-tables = rw (laid-before 642 ws (omega arith) rs k 0 (omega arith), laid-before 642 ws (omega arith) rs k 321 (omega arith), laid-rows 642 ws (omega arith) rs k) refl
+  paths-tables = rw (laid-before (startOf Paths) ws (omega arith) rs k 0 (omega arith), laid-before (startOf Paths) ws (omega arith) rs k (startOf Windows) (omega arith), laid-rows (startOf Paths) ws (omega arith) rs k) refl
 
   paths-length : length (words.laid Paths rs ws) ≡ ledgerWords
-  paths-length = laid-length 642 ws (omega arith) rs k ∙ h
+  paths-length = laid-length (startOf Paths) ws (omega arith) rs k ∙ h
 
   windows-stay : words.laid Windows (rowsOf Windows ws) (words.laid Paths rs ws) ≡ words.laid Paths rs ws
   windows-stay =
       let after = words.laid Paths rs ws in
-      let e : rowsOf Windows ws ≡ rowsOf Windows after = sym (laid-before 642 ws (omega arith) rs k 321 (omega arith)) in
+      let e : rowsOf Windows ws ≡ rowsOf Windows after = sym (laid-before (startOf Paths) ws (omega arith) rs k (startOf Windows) (omega arith)) in
       ap (λ (qs : List Row). words.laid Windows qs after) e ∙ own-windows after paths-length
 
   pub dials-stay : rowsOf Dials (words.laid Paths rs ws) ≡ rowsOf Dials ws
-  dials-stay = laid-before 642 ws (omega arith) rs k 0 (omega arith)
+  dials-stay = laid-before (startOf Paths) ws (omega arith) rs k 0 (omega arith)
 
   pub paths-words : words.laid Paths rs ws ≡ laid (withPaths (tablesOf ws) rs) ws
   unfolding laid
@@ -85,7 +85,7 @@ module _ (ws : List ℕ) (h : length ws ≡ ledgerWords) (rs : List Row) (k : le
         dials-tables′ =
             let after = words.laid Paths rs ws in
             let n = paths-length in
-            rw (laid-rows 0 after (omega arith) qs m, laid-behind 0 after (omega arith) qs m 321 (omega arith), laid-behind 0 after (omega arith) qs m 642 (omega arith)) refl
+            rw (laid-rows 0 after (omega arith) qs m, laid-behind 0 after (omega arith) qs m (startOf Windows) (omega arith), laid-behind 0 after (omega arith) qs m (startOf Paths) (omega arith)) refl
 
     pub both-words : words.laid Dials qs (words.laid Paths rs ws) ≡ laid (record { dials = qs; windows = rowsOf Windows ws; paths = rs }) ws
     unfolding laid
@@ -144,14 +144,14 @@ module _ (ws : List ℕ) (h : length ws ≡ ledgerWords) (p : Row → Bool) wher
     dials-such f = (ap tablesOf f ∙ dials-tables ws h (such p (rowsOf Dials ws)) (such-64 0), f ∙ dials-words ws h (such p (rowsOf Dials ws)) (such-64 0))
 
     pub windows-such : out ≡ words.laid Windows (such p (rowsOf Windows ws)) ws → (tablesOf out ≡ withWindows (tablesOf ws) (such p (rowsOf Windows ws))) × (out ≡ laid (withWindows (tablesOf ws) (such p (rowsOf Windows ws))) ws)
-    windows-such f = (ap tablesOf f ∙ windows-tables ws h (such p (rowsOf Windows ws)) (such-64 321), f ∙ windows-words ws h (such p (rowsOf Windows ws)) (such-64 321))
+    windows-such f = (ap tablesOf f ∙ windows-tables ws h (such p (rowsOf Windows ws)) (such-64 (startOf Windows)), f ∙ windows-words ws h (such p (rowsOf Windows ws)) (such-64 (startOf Windows)))
 
 -- ---- the law: tables that are laid are those of the words
 pub tables-laid : (ws : List ℕ) → length ws ≡ ledgerWords → (l : PathLedger) → length (l .dials) ≤ 64 → length (l .windows) ≤ 64 → length (l .paths) ≤ 64 → tablesOf (laid l ws) ≡ l
 unfolding laid
 tables-laid ws h l d w p =
     let w1 = words.laid Paths (l .paths) ws in
-    let n1 : length w1 ≡ ledgerWords = laid-length 642 ws (omega arith) (l .paths) p ∙ h in
+    let n1 : length w1 ≡ ledgerWords = laid-length (startOf Paths) ws (omega arith) (l .paths) p ∙ h in
     let w2 = words.laid Windows (l .windows) w1 in
-    let n2 : length w2 ≡ ledgerWords = laid-length 321 w1 (omega arith) (l .windows) w ∙ n1 in
+    let n2 : length w2 ≡ ledgerWords = laid-length (startOf Windows) w1 (omega arith) (l .windows) w ∙ n1 in
     dials-tables w2 n2 (l .dials) d ∙ ap (λ (x : PathLedger). withDials x (l .dials)) (windows-tables w1 n1 (l .windows) w ∙ ap (λ (x : PathLedger). withWindows x (l .windows)) (paths-tables ws h (l .paths) p))

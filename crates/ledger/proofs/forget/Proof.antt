@@ -6,7 +6,7 @@ use Rattle.rows.specs.declared.Row.{Row}
 use Rattle.rows.specs.declared.Table.the-variants.{Dials, Paths}
 use Rattle.rows.specs.declared.Keep.the-variants.{Other}
 use Rattle.rows.specs.Rows.{keepsRow}
-use Rattle.rows.specs.Words.{rowsOf}
+use Rattle.rows.specs.Words.{rowsOf, startOf}
 use Rattle.ledger.specs.Ledger.{forgotten, tablesOf}
 use Rattle.ledger.proofs.Laws.{such-64, dials-stay, both-tables, both-words}
 use borrow.Author.Needs.{needs}
@@ -35,7 +35,7 @@ returns c =
     let p = keepsRow (Other (a .conn .0)) in
     let rs = such p (rowsOf Paths w) in
     let qs = such p (rowsOf Dials w) in
-    let k = such-64 w h p 642 in
+    let k = such-64 w h p (startOf Paths) in
     let m = such-64 w h p 0 in
     let e = c .remove2 .ensures ∙ ap (λ (ws : List ℕ). words.laid Dials (such p (rowsOf Dials ws)) ws) (c .before .before .remove .ensures) ∙ ap (λ (xs : List Row). words.laid Dials (such p xs) (words.laid Paths rs w)) (dials-stay w h rs k) in
     (c .before .before .before .before .path-at .ensures, (ap tablesOf e ∙ both-tables w h rs k qs m, e ∙ both-words w h rs k qs m))
