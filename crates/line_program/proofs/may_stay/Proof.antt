@@ -1,7 +1,7 @@
 use mathlib.Core.Path.{sym}
 use borrow.Author.Needs.{needs}
-use Rattle.journal.proofs.may_stay.Statement.{statement}
-use Rattle.journal.proofs.may_stay.Tie as tie
+use Rattle.line_program.proofs.may_stay.Statement.{statement}
+use Rattle.line_program.proofs.may_stay.Tie as tie
 
 has-line-requires : tie.Need-has-line-requires
 has-line-requires c κs = search needs

@@ -1,6 +1,6 @@
 use borrow.Author.Needs.{needs}
-use Rattle.journal.proofs.is_line.Statement.{statement}
-use Rattle.journal.proofs.is_line.Tie as tie
+use Rattle.line_program.proofs.is_line.Statement.{statement}
+use Rattle.line_program.proofs.is_line.Tie as tie
 
 returns : tie.Need-returns
 returns c = search needs
