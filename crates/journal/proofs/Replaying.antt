@@ -20,8 +20,8 @@ use Rattle.journal_prints.proofs.Room.{short}
 use Rattle.ledger.specs.Ledger.{PathLedger, tablesOf, emptyLedger}
 use Rattle.lent.specs.Carried.{noFrame, noAims}
 use Rattle.lines.specs.Lines.{longest}
-use Rattle.journal_turns.specs.Turns.{Journal, stateOf, whole, newJournal}
-use Rattle.journal_turns.specs.declared.State.{State as Numbers}
+use Rattle.journal_calls.specs.Calls.{Journal, stateOf, whole, newJournal}
+use Rattle.journal_calls.specs.declared.State.{State as Numbers}
 use Rattle.journal_text.specs.Texts.{firstOf, isGood, opened, openingText}
 use Rattle.journal_text.specs.Journals.{cut, linesOf, linesText, opening, textOf, journalText}
 use Rattle.journal_text.proofs.Cutting.{lines as law, long-first}

@@ -14,8 +14,9 @@ use Rattle.line_program.specs.declared.Reading.{Reading}
 use Rattle.line_program.specs.Reads.{left, hasLine, feed, Read, NextLine}
 use Rattle.journal_prints.specs.Room.{room}
 use Rattle.lines.specs.Lines.{longest}
-use Rattle.journal_turns.specs.Turns.{Journal, Taken, lineTurn}
-use Rattle.journal_turns.specs.declared.State.{State as Numbers}
+use Rattle.journal_calls.specs.Calls.{Journal, Taken}
+use Rattle.journal_turns.specs.Turns.{lineTurn}
+use Rattle.journal_calls.specs.declared.State.{State as Numbers}
 use Rattle.journal_text.specs.Texts.{turnText, lineText}
 use Rattle.journal_text.specs.Journals.{cut, linesOf, linesText}
 use Rattle.journal_text.proofs.Cutting.{lines as law, long-same}

@@ -11,7 +11,8 @@ use Rattle.text.proofs.Printing.{length-kept, behind-within}
 use Rattle.line_program.specs.declared.Reading.{Reading}
 use Rattle.line_program.specs.Reads.{left, hasLine}
 use Rattle.journal_prints.specs.Room.{room}
-use Rattle.journal_turns.specs.Turns.{Journal, lineTurn}
+use Rattle.journal_calls.specs.Calls.{Journal}
+use Rattle.journal_turns.specs.Turns.{lineTurn}
 use Rattle.journal_text.specs.Texts.{lineText}
 use Rattle.line_program.specs.Waits.{isLine, waitingAfter, handedAfter}
 use Rattle.line_program.proofs.HandsOver.{all-there, room-kept}

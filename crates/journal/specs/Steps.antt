@@ -10,7 +10,8 @@ use Rattle.line_program.specs.declared.Reading.{Reading}
 use Rattle.line_program.specs.Reads.{left, hasLine}
 use Rattle.line_program.specs.Waits.{isLine, waitingAfter, handedAfter}
 use Rattle.journal_prints.specs.Room.{room}
-use Rattle.journal_turns.specs.Turns.{Journal, lineTurn}
+use Rattle.journal_calls.specs.Calls.{Journal}
+use Rattle.journal_turns.specs.Turns.{lineTurn}
 use Rattle.journal_text.specs.Texts.{lineText}
 
 -- the journal, the reply buffer, the output buffer, how many of its bytes wait, and the bytes that were handed over before them

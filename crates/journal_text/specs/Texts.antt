@@ -13,10 +13,11 @@ use Rattle.journal_prints.specs.Outputs.{attributedText, refusedText}
 use Rattle.journal_effects.specs.Effects.{effectsText}
 use Rattle.journal_effects.specs.declared.Effects.{Effects}
 use Rattle.lines.specs.Lines.{longest}
-use Rattle.journal_turns.specs.Turns.{Journal, Turned, newJournal, lineTurn}
-use Rattle.journal_turns.specs.declared.Said.{Said}
+use Rattle.journal_calls.specs.Calls.{Journal, Turned, newJournal}
+use Rattle.journal_turns.specs.Turns.{lineTurn}
+use Rattle.journal_calls.specs.declared.Said.{Said}
 use Rattle.journal_lines.specs.declared.First.the-variants as first
-use Rattle.journal_turns.specs.declared.Said.the-variants as said
+use Rattle.journal_calls.specs.declared.Said.the-variants as said
 
 -- ---- the first line (section 12.4)
 

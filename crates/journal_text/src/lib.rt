@@ -1,10 +1,10 @@
 // What a journal prints, line by line: each line in, its output lines behind what a lent buffer holds already. What the buffer has no
 // room for is left out.
 use frames::FrameBytes;
+use journal_calls::Said;
+use journal_calls::State;
 use journal_effects::Effects;
 use journal_lines::First;
-use journal_turns::Said;
-use journal_turns::State;
 use ledger::Ledger;
 use lent::TargetBytes;
 use path::FoundPath;
@@ -19,7 +19,8 @@ ghost use Rattle.text.specs.Printed.{printed, behind};
 ghost use Rattle.journal_prints.specs.Outputs.{attributedText};
 ghost use Rattle.journal_prints.specs.Room.{room, OwnerFits};
 ghost use Rattle.ledger.specs.Ledger.{tablesOf};
-ghost use Rattle.journal_turns.specs.Turns.{whole, stateOf, lineTurn};
+ghost use Rattle.journal_calls.specs.Calls.{whole, stateOf};
+ghost use Rattle.journal_turns.specs.Turns.{lineTurn};
 ghost use Rattle.journal_text.specs.Texts.{firstOf, isGood, settingsIn, opened, openingText, saidText, lineText};
 
 // ---- the first line

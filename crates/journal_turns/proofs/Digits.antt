@@ -12,7 +12,6 @@ use Rattle.prelude.specs.Choice.{pick}
 use Rattle.text.specs.Hexadecimal.{digitValue, isPair, bytesOf}
 use Rattle.text.specs.Printed.{printed, behind}
 use Rattle.text.proofs.Printing.{laid, parts, laid-none, length-kept, fits, fits-place}
-use Rattle.lines.specs.Lines.{longest}
 use Rattle.forms.specs.Texts.{part}
 
 -- two digits make a byte

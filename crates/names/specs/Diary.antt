@@ -34,9 +34,10 @@ use Rattle.journal_lines.specs.declared.Digits.{Digits}
 use Rattle.journal_lines.specs.declared.Line.{Line}
 use Rattle.journal_lines.specs.declared.Line.the-variants.{Start, Up, Input, Tick, Wrote, Down, Dial, Forget, Attribute, Unknown}
 use Rattle.journal_effects.specs.declared.Effects.{Effects}
-use Rattle.journal_turns.specs.declared.Said.{Said}
-use Rattle.journal_turns.specs.declared.Said.the-variants as said
-use Rattle.journal_turns.specs.Turns.{Journal, Turned, newJournal, digitsBytes, read, lineTurn}
+use Rattle.journal_calls.specs.declared.Said.{Said}
+use Rattle.journal_calls.specs.declared.Said.the-variants as said
+use Rattle.journal_calls.specs.Calls.{Journal, Turned, newJournal}
+use Rattle.journal_turns.specs.Turns.{digitsBytes, read, lineTurn}
 use Rattle.names.specs.Events.{Event, dialed, gotName, forgot, replied, gaveUp, ticked, directName, dialing, named, expected, isFull}
 
 pub record Diary : Type 0 where
