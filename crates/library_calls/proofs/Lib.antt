@@ -1,0 +1,4 @@
+pub mod Messaging
+pub mod Choosing
+pub mod Budgeting
+pub mod Scheduling

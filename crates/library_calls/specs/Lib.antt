@@ -1,0 +1,4 @@
+pub mod Messages
+pub mod Choices
+pub mod Budgets
+pub mod Schedules
