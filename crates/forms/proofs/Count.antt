@@ -16,7 +16,7 @@ use Rattle.text.specs.Printed.{printed, behind}
 use Rattle.text.specs.declared.Number.{Number}
 use Rattle.text.specs.declared.Number.the-variants as number
 use Rattle.text.proofs.Printing.{fits, fits-place}
-use Rattle.forms.specs.Forms.{kindOf, isLiteral, opens, choice, split, whichWord, wordsOf, numberWords, someWords, maybeWords, bothWords, pairWords, bytesWords, listed, isGood, Reading, Good, Bad, followed, readFrom, readForm, isRead, StoredAs, Stored}
+use Rattle.forms.specs.Forms.{kindOf, isLiteral, opens, choice, split, whichWord, wordsOf, numberWords, someWords, maybeWords, bothWords, pairWords, bytesWords, listed, isGood, Reading, Good, Bad, followed, readFrom, readForm, isRead, wordsFrom, Stored}
 use Rattle.forms.specs.Texts.{width, countFrom, spaces, spacesFrom}
 use Rattle.forms.specs.declared.Kind.{Kind}
 use Rattle.forms.specs.declared.Kind.the-variants as kind
@@ -89,6 +89,34 @@ counted false (b ∷ form) at s ws h =
         let l : length ws ≡ length (listed w ++ q .1) = ap length (sym (q .3)) in
         omega (arith, l, length-append (listed w) (q .1), wide (kindOf b) (choice (kindOf b) form) (take (lengthBefore 32 s) s) at (at + lengthBefore 32 s) (q .0), g (at + lengthBefore 32 s) (drop (lengthBefore 32 s) s) (q .1) (q .2))
 
+-- a line that is read has its words stored
+all-words : (within : Bool) (form : List ℕ) (at : ℕ) (s ws : List ℕ) → readFrom within form at s ≡ Good ws → wordsFrom within form at s ≡ ws
+unfolding readFrom wordsFrom
+all-words within [] at [] ws h = cc
+all-words within [] at (a ∷ s) ws h = let z : _≡_ {A = ℕ} 0 1 = cc in absurd (omega arith)
+all-words true (b ∷ form) at s ws h = all-words (no (eqb b 41)) form at s ws h
+all-words false (b ∷ form) at s ws h =
+    go (isLiteral (kindOf b)) (λ t. all-words false form (at + 1) t ws) (λ n t vs. all-words (opens (kindOf b)) form n t vs) h
+  where
+    go : (t : Bool) → ((t : List ℕ) → readFrom false form (at + 1) t ≡ Good ws → wordsFrom false form (at + 1) t ≡ ws)
+        → ((n : ℕ) (t vs : List ℕ) → readFrom (opens (kindOf b)) form n t ≡ Good vs → wordsFrom (opens (kindOf b)) form n t ≡ vs)
+        → pick t (pick (begins (b ∷ []) s) (readFrom false form (at + 1) (drop 1 s)) Bad)
+        (followed (wordsOf (kindOf b) (choice (kindOf b) form) (take (lengthBefore 32 s) s) at (at + lengthBefore 32 s))
+        (readFrom (opens (kindOf b)) form (at + lengthBefore 32 s) (drop (lengthBefore 32 s) s))) ≡ Good ws
+        → pick t (pick (begins (b ∷ []) s) (wordsFrom false form (at + 1) (drop 1 s)) [])
+        (listed (wordsOf (kindOf b) (choice (kindOf b) form) (take (lengthBefore 32 s) s) at (at + lengthBefore 32 s))
+        ++ pick (isGood (wordsOf (kindOf b) (choice (kindOf b) form) (take (lengthBefore 32 s) s) at (at + lengthBefore 32 s)))
+        (wordsFrom (opens (kindOf b)) form (at + lengthBefore 32 s) (drop (lengthBefore 32 s) s)) []) ≡ ws
+    go true f g h = byte (begins (b ∷ []) s) h
+      where
+        byte : (t : Bool) → pick t (readFrom false form (at + 1) (drop 1 s)) Bad ≡ Good ws → pick t (wordsFrom false form (at + 1) (drop 1 s)) [] ≡ ws
+        byte true h = f (drop 1 s) h
+        byte false h = let z : _≡_ {A = ℕ} 0 1 = cc in absurd (omega arith)
+    go false f g h =
+        let w = wordsOf (kindOf b) (choice (kindOf b) form) (take (lengthBefore 32 s) s) at (at + lengthBefore 32 s) in
+        let q = parted s w (readFrom (opens (kindOf b)) form (at + lengthBefore 32 s) (drop (lengthBefore 32 s) s)) ws h in
+        rw (q .0, g (at + lengthBefore 32 s) (drop (lengthBefore 32 s) s) (q .1) (q .2)) (q .3)
+
 -- ---- what a reader's contract says, as one fact
 
 pub is-bad : (r : Reading (List ℕ)) → false ≡ isRead r → r ≡ Bad
@@ -100,12 +128,13 @@ pub is-good : (form line before after : List ℕ) (n : ℕ) → true ≡ isRead 
 unfolding readForm
 is-good form line before after n e s c l = go (readFrom false form 0 line) refl e s
   where
-    go : (r : Reading (List ℕ)) → readFrom false form 0 line ≡ r → true ≡ isRead r → StoredAs r before after → readFrom false form 0 line ≡ Good (take n after)
+    go : (r : Reading (List ℕ)) → readFrom false form 0 line ≡ r → true ≡ isRead r → after ≡ printed before 0 (wordsFrom false form 0 line) → readFrom false form 0 line ≡ Good (take n after)
     go (Good ws) f e s =
+        let g : after ≡ printed before 0 ws = s ∙ ap (printed before 0) (all-words false form 0 line ws f) in
         let k : length ws ≡ n = counted false form 0 line ws f ∙ c in
         let m : length ws ≤ length before = omega arith in
         let p : behind before 0 ws ≡ n = fits-place before ws m ∙ k in
-        let t : ws ≡ take n after = sym (fits before ws m) ∙ rw (p, s) in
+        let t : ws ≡ take n after = sym (fits before ws m) ∙ rw (p, g) in
         f ∙ ap Good t
     go Bad f e s = let z : _≡_ {A = ℕ} 0 1 = cc in absurd (omega arith)
 

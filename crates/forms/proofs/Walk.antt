@@ -14,7 +14,7 @@ use Rattle.text.specs.Words.{begins, isWord, lengthBefore}
 use Rattle.text.specs.Printed.{printed}
 use Rattle.text.proofs.Reading.{at, before-within}
 use Rattle.text.proofs.Printing.{Laid, laid-none, rest-of, then}
-use Rattle.forms.specs.Forms.{kindOf, isLiteral, opens, choiceLength, choice, behindChoice, wordsOf, listed, isGood, Reading, Good, Bad, prepend, followed, readFrom, readForm, isRead, Stored}
+use Rattle.forms.specs.Forms.{kindOf, isLiteral, opens, choiceLength, choice, behindChoice, wordsOf, listed, isGood, Reading, Good, Bad, prepend, followed, readFrom, readForm, isRead, wordsFrom, Stored}
 use Rattle.forms.specs.declared.Kind.{Kind}
 use Rattle.forms.specs.declared.Kind.the-variants as kind
 use Rattle.forms.specs.declared.Words.{Words}
@@ -46,6 +46,16 @@ skip (b ∷ form) at s = go (eqb b 41) (skip form at s)
   where
     go : (t : Bool) → readFrom true form at s ≡ readFrom false (drop (suc (lengthBefore 41 form)) form) at s
         → readFrom (no t) form at s ≡ readFrom false (drop (suc (pick t 0 (suc (lengthBefore 41 form)))) (b ∷ form)) at s
+    go true e = refl
+    go false e = e
+
+skip-words : (form : List ℕ) (at : ℕ) (s : List ℕ) → wordsFrom true form at s ≡ wordsFrom false (drop (suc (lengthBefore 41 form)) form) at s
+unfolding wordsFrom lengthBefore
+skip-words [] at s = refl
+skip-words (b ∷ form) at s = go (eqb b 41) (skip-words form at s)
+  where
+    go : (t : Bool) → wordsFrom true form at s ≡ wordsFrom false (drop (suc (lengthBefore 41 form)) form) at s
+        → wordsFrom (no t) form at s ≡ wordsFrom false (drop (suc (pick t 0 (suc (lengthBefore 41 form)))) (b ∷ form)) at s
     go true e = refl
     go false e = e
 
@@ -94,6 +104,7 @@ next-fits form k f {p} h e d = rw d (behind-fits k (f + 1 + p) (length form) (f 
 pub record Walked (form line : List ℕ) (before : List ℕ) (f i : ℕ) (got : List ℕ) (n : ℕ) : Type 0 where
   pub ws : List ℕ
   pub rest : readForm form line ≡ prepend ws (readFrom false (drop f form) i (drop i line))
+  pub words : wordsFrom false form 0 line ≡ ws ++ wordsFrom false (drop f form) i (drop i line)
   pub stored : Laid before 0 ws got n
 
 prepend-none : (r : Reading (List ℕ)) → r ≡ prepend [] r
@@ -106,30 +117,33 @@ prepend-twice a b Bad = refl
 
 pub begin : (form line before : List ℕ) → Walked form line before 0 0 before 0
 unfolding readForm
-begin form line before = record { ws = []; rest = prepend-none (readFrom false form 0 line); stored = laid-none before 0 }
+begin form line before = record { ws = []; rest = prepend-none (readFrom false form 0 line); words = refl; stored = laid-none before 0 }
 
 -- what a line of another form says
-pub unread : (form line before after : List ℕ) → readForm form line ≡ Bad → length after ≡ length before
+pub unread : (form line before after : List ℕ) {ws : List ℕ} {n : ℕ} → (readForm form line ≡ Bad) × (wordsFrom false form 0 line ≡ ws) → Laid before 0 ws after n
     → (false ≡ isRead (readForm form line)) × Stored form line before after
-unread form line before after e l = rw e (refl, l)
+unread form line before after e l = (ap isRead (sym (e .0)), l .bytes ∙ ap (printed before 0) (sym (e .1)))
 
 module _ {form line before : List ℕ} {f i : ℕ} {got : List ℕ} {n : ℕ} (w : Walked form line before f i got n) (hf : f < length form) where
-  open Walked w using (ws, rest, stored)
+  open Walked w using (ws, rest, words, stored)
 
-  pub cut-off : isLiteral (kindOf (getD form f 0)) ≡ true → length line ≤ i → readForm form line ≡ Bad
-  unfolding readFrom begins
-  cut-off l h = rest ∙ rw (at form f hf, l, drop-of-length-le line h)
+  pub cut-off : isLiteral (kindOf (getD form f 0)) ≡ true → length line ≤ i → (readForm form line ≡ Bad) × (wordsFrom false form 0 line ≡ ws)
+  unfolding readFrom wordsFrom begins
+  cut-off l h = (rest ∙ rw (at form f hf, l, drop-of-length-le line h), words ∙ rw (at form f hf, l, drop-of-length-le line h) (append-nil ws))
 
-  pub other-byte : isLiteral (kindOf (getD form f 0)) ≡ true → i < length line → (getD line i 0 ≡ getD form f 0 → ⊥) → readForm form line ≡ Bad
-  unfolding readFrom begins
-  other-byte l h d = rest ∙ rw (at form f hf, l, at line i h, ne-eqb (getD line i 0) (getD form f 0) d)
+  pub other-byte : isLiteral (kindOf (getD form f 0)) ≡ true → i < length line → (getD line i 0 ≡ getD form f 0 → ⊥)
+      → (readForm form line ≡ Bad) × (wordsFrom false form 0 line ≡ ws)
+  unfolding readFrom wordsFrom begins
+  other-byte l h d =
+      (rest ∙ rw (at form f hf, l, at line i h, ne-eqb (getD line i 0) (getD form f 0) d), words ∙ rw (at form f hf, l, at line i h, ne-eqb (getD line i 0) (getD form f 0) d) (append-nil ws))
 
   pub same-byte : isLiteral (kindOf (getD form f 0)) ≡ true → i < length line → getD line i 0 ≡ getD form f 0 → Walked form line before (f + 1) (i + 1) got n
-  unfolding readFrom begins
+  unfolding readFrom wordsFrom begins
   same-byte l h d =
       record {
         ws = ws;
         rest = rest ∙ rw (at form f hf, l, at line i h, eq-eqb (getD line i 0) (getD form f 0) d);
+        words = words ∙ rw (at form f hf, l, at line i h, eq-eqb (getD line i 0) (getD form f 0) d);
         stored = stored;
       }
 
@@ -147,8 +161,21 @@ module _ {form line before : List ℕ} {f i : ℕ} {got : List ℕ} {n : ℕ} (w
         let x : v ≡ wordsOf k (choice k (drop (f + 1) form)) (take (lengthBefore 32 (drop i line)) (drop i line)) i (i + lengthBefore 32 (drop i line)) = ev ∙ rw (y, z, o, u) in
         rest ∙ rw (at form f hf, ← ek, l, ← x, ← u, drop-drop m i line)
 
-    pub bad-value : isGood v ≡ false → readForm form line ≡ Bad
-    bad-value b = value-here ∙ rw b
+    words-here : wordsFrom false form 0 line ≡ ws ++ (listed v ++ pick (isGood v) (wordsFrom (opens k) (drop (f + 1) form) (i + m) (drop (i + m) line)) [])
+    unfolding wordsFrom
+    words-here =
+        let y : i + m - i ≡ m = omega arith in
+        let z : f + 1 + p - (f + 1) ≡ p = omega arith in
+        let u : m ≡ lengthBefore 32 (drop i line) = em ∙ ap (lengthBefore 32) (rest-of line i) in
+        let o : p ≡ choiceLength k (drop (f + 1) form) = ep ∙ ap (choiceLength k) (rest-of form (f + 1)) in
+        let x : v ≡ wordsOf k (choice k (drop (f + 1) form)) (take (lengthBefore 32 (drop i line)) (drop i line)) i (i + lengthBefore 32 (drop i line)) = ev ∙ rw (y, z, o, u) in
+        words ∙ rw (at form f hf, ← ek, l, ← x, ← u, drop-drop m i line)
+
+    pub bad-value : isGood v ≡ false → (readForm form line ≡ Bad) × (wordsFrom false form 0 line ≡ ws ++ listed v)
+    bad-value b = (value-here ∙ rw b, words-here ∙ rw (b, append-nil (listed v)))
+
+    pub bad-stored : {out : List ℕ} {j : ℕ} → Laid got n (listed v) out j → Laid before 0 (ws ++ listed v) out j
+    bad-stored d = then stored d
 
     pub good-value : {q : ℕ} {out : List ℕ} {j : ℕ} → isGood v ≡ true → q ≡ behindChoice k (f + 1 + p) (length form) → Laid got n (listed v) out j
         → Walked form line before q (i + m) out j
@@ -157,21 +184,26 @@ module _ {form line before : List ℕ} {f i : ℕ} {got : List ℕ} {n : ℕ} (w
         record {
           ws = ws ++ listed v;
           rest = value-here ∙ rw (b, goes-on (λ within rest. readFrom within rest (i + m) (drop (i + m) line)) (λ rest. skip rest (i + m) (drop (i + m) line)) form (f + 1) k, ← o, ← e) (prepend-twice ws (listed v) (readFrom false (drop q form) (i + m) (drop (i + m) line)));
+          words = words-here ∙ rw (b, goes-on (λ within rest. wordsFrom within rest (i + m) (drop (i + m) line)) (λ rest. skip-words rest (i + m) (drop (i + m) line)) form (f + 1) k, ← o, ← e) (sym (append-assoc ws (listed v) (wordsFrom false (drop q form) (i + m) (drop (i + m) line))));
           stored = then stored d;
         }
 
 -- ---- the form's end
 
 module _ {form line before : List ℕ} {f i : ℕ} {got : List ℕ} {n : ℕ} (w : Walked form line before f i got n) (hf : length form ≤ f) where
-  open Walked w using (ws, rest, stored)
+  open Walked w using (ws, rest, words, stored)
 
-  pub bytes-left : i < length line → readForm form line ≡ Bad
+  all-words : wordsFrom false form 0 line ≡ ws
+  unfolding wordsFrom
+  all-words = words ∙ rw (drop-of-length-le form hf, append-nil ws)
+
+  pub bytes-left : i < length line → (readForm form line ≡ Bad) × (wordsFrom false form 0 line ≡ ws)
   unfolding readFrom
-  bytes-left h = rest ∙ rw (drop-of-length-le form hf, at line i h)
+  bytes-left h = (rest ∙ rw (drop-of-length-le form hf, at line i h), all-words)
 
   pub whole : length line ≤ i → readForm form line ≡ Good ws
   unfolding readFrom
   whole h = rest ∙ rw (drop-of-length-le form hf, drop-of-length-le line h, append-nil ws)
 
   pub all-read : length line ≤ i → (true ≡ isRead (readForm form line)) × Stored form line before got
-  all-read h = rw (whole h) (refl, stored .bytes)
+  all-read h = (ap isRead (sym (whole h)), stored .bytes ∙ ap (printed before 0) (sym all-words))

@@ -54,6 +54,11 @@ choice k form = take (choiceLength k form) form
 abbrev pub behindChoice : Kind → ℕ → ℕ → ℕ
 behindChoice k c size = pick (opens k) (pick (ltb c size) (c + 1) c) c
 
+-- how many bytes of a form stand for themselves, up to the first mark
+unfoldable pub literals : List ℕ → ℕ
+literals [] = 0
+literals (b ∷ form) = pick (isLiteral (kindOf b)) (suc (literals form)) 0
+
 -- words with slashes, 47, between
 unfoldable pub onFirst : ℕ → List (List ℕ) → List (List ℕ)
 onFirst b [] = (b ∷ []) ∷ []
@@ -152,10 +157,16 @@ abbrev pub isRead : Reading (List ℕ) → Bool
 isRead (Good ws) = true
 isRead Bad = false
 
--- what becomes of the numbers lent: those of a line that is read stand first
-abbrev pub StoredAs : Reading (List ℕ) → List ℕ → List ℕ → Type 0
-StoredAs (Good ws) before after = after ≡ printed before 0 ws
-StoredAs Bad before after = length after ≡ length before
+-- the words of the values up to the first that is bad, or up to a byte that the line has not
+unfoldable pub wordsFrom : Bool → List ℕ → ℕ → List ℕ → List ℕ
+wordsFrom within [] at s = []
+wordsFrom true (b ∷ form) at s = wordsFrom (no (eqb b 41)) form at s
+wordsFrom false (b ∷ form) at s =
+    pick (isLiteral (kindOf b)) (pick (begins (b ∷ []) s) (wordsFrom false form (at + 1) (drop 1 s)) [])
+    (listed (wordsOf (kindOf b) (choice (kindOf b) form) (take (lengthBefore 32 s) s) at (at + lengthBefore 32 s))
+    ++ pick (isGood (wordsOf (kindOf b) (choice (kindOf b) form) (take (lengthBefore 32 s) s) at (at + lengthBefore 32 s)))
+    (wordsFrom (opens (kindOf b)) form (at + lengthBefore 32 s) (drop (lengthBefore 32 s) s)) [])
 
+-- what becomes of the numbers lent: those words stand first, as far as there is room
 abbrev pub Stored : List ℕ → List ℕ → List ℕ → List ℕ → Type 0
-Stored form line before after = StoredAs (readForm form line) before after
+Stored form line before after = after ≡ printed before 0 (wordsFrom false form 0 line)

@@ -4,11 +4,11 @@ ghost use mathlib.Core.Path.{_≡_};
 ghost use mathlib.Core.Bool.{true, false};
 ghost use mathlib.Core.List.{List, _∷_, []};
 ghost use Prim.Native.Nat.{ℕ, _+_, _≤_, min};
-ghost use lib.ListN.{length, getD};
+ghost use lib.ListN.{length, take, getD};
 ghost use Rattle.text.specs.Words.{lengthBefore};
 ghost use Rattle.text.specs.Printed.{printed, behind};
 ghost use Rattle.text.specs.Decimal.{decimalOf};
-ghost use Rattle.forms.specs.Forms.{kindOf, isLiteral, choiceLength, behindChoice, split, numberWords, maybeWords, pairWords, bytesWords, whichWord, wordsOf, listed, isGood, isRead, readForm, Stored, Reading};
+ghost use Rattle.forms.specs.Forms.{kindOf, isLiteral, choiceLength, behindChoice, literals, split, numberWords, maybeWords, pairWords, bytesWords, whichWord, wordsOf, listed, isGood, isRead, readForm, Stored, Reading};
 ghost use Rattle.text.specs.Hexadecimal.{bytesText};
 ghost use Rattle.forms.specs.Texts.{Value, wordAt, maybeText, pairText, valueText, text, Fits, isForm, width, valueIn, valuesIn, part, valuesOf};
 ghost use Rattle.forms.specs.Tables.{allDiffer, ShareNoLine};
@@ -384,29 +384,51 @@ fn further(n: usize, by: usize, size: usize) -> usize
     n + by
 }
 
+// The bytes of a form up to its first mark, printed; answers how many they are.
+fn put_literals(form: &[u8], out: &mut [u8], at: usize) -> usize
+    ensures bytes { λ r. ⌜ now (out .exit) ≡ printed (now (out .entry)) at (take (literals (now (form .entry))) (now (form .entry))) ⌝ }
+    ensures count { λ r. ⌜ r ≡ literals (now (form .entry)) ⌝ }
+{
+    let mut i: usize = 0;
+    let mut p = at;
+    while i < form.len() {
+        let b = form[i];
+        let kind = kind_of(b);
+        if is_literal(kind) {
+            p = text::put_byte(b, out, p);
+            i += 1;
+        } else {
+            return i;
+        }
+    }
+    i
+}
+
 // Prints a line by a form: the values that words stand for, bytes from a source.
 pub fn put_form(form: &[u8], words: &[u64], source: &[u8], out: &mut [u8], at: usize) -> usize
     ensures bytes { λ r. ⌜ now (out .exit) ≡ printed (now (out .entry)) at (text (now (form .entry)) (valuesIn (now (source .entry)) (now (form .entry)) (now (words .entry)))) ⌝ }
     ensures place { λ r. ⌜ r ≡ behind (now (out .entry)) at (text (now (form .entry)) (valuesIn (now (source .entry)) (now (form .entry)) (now (words .entry)))) ⌝ }
 {
+    if out.len() < at {
+        return at;
+    }
     let mut f: usize = 0;
     let mut n: usize = 0;
     let mut p = at;
-    while f < form.len() {
-        let b = form[f];
-        let g = f + 1;
-        let kind = kind_of(b);
-        if is_literal(kind) {
-            p = text::put_byte(b, out, p);
-            f = g;
-        } else {
-            let c = g + choice_length(kind, &form[g..]);
-            p = put_value(kind, &form[g..c], &words[n..], source, out, p);
-            n = further(n, width_of(kind), words.len());
-            f = behind_choice(kind, c, form.len());
+    loop {
+        let m = put_literals(&form[f..], out, p);
+        p = further(p, m, out.len());
+        f += m;
+        if form.len() <= f {
+            return p;
         }
+        let g = f + 1;
+        let kind = kind_of(form[f]);
+        let c = g + choice_length(kind, &form[g..]);
+        p = put_value(kind, &form[g..c], &words[n..], source, out, p);
+        n = further(n, width_of(kind), words.len());
+        f = behind_choice(kind, c, form.len());
     }
-    p
 }
 
 // ---- what is printed is read, and only that
