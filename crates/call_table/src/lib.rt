@@ -117,7 +117,8 @@ pub struct Bytes {
     pub len: usize,
 }
 
-fn blank() -> [u8; lines::LONGEST]
+// Room for a line.
+pub fn blank() -> [u8; lines::LONGEST]
     ensures { λ r. ⌜ r ≡ blank ⌝ }
 {
     [0; lines::LONGEST]
