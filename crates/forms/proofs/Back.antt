@@ -177,9 +177,11 @@ both-true : (p q : Bool) → both p q ≡ true → (p ≡ true) × (q ≡ true)
 both-true true q e = (refl, e)
 both-true false q e = let z : _≡_ {A = ℕ} 0 1 = cc in absurd (omega arith)
 
-module _ (line : List ℕ) where
+-- whatever gets the bytes that a line's digits stand for
+module _ (line : List ℕ) (get : ℕ → ℕ → List ℕ) (none : (start : ℕ) → get start start ≡ [])
+    (whole : (start end b : ℕ) (s : List ℕ) → Bytes (b ∷ s) → part line start end ≡ hexadecimal (b ∷ s) → get start end ≡ b ∷ s) where
   abbrev Had : List ℕ → Value → Words → List ℕ → Type 0
-  Had ch v w ws = (isGood w ≡ true) × (valueIn (get line) (kindOfValue v) (listed w ++ ws) ≡ v) × (drop (width (kindOfValue v)) (listed w ++ ws) ≡ ws)
+  Had ch v w ws = (isGood w ≡ true) × (valueIn get (kindOfValue v) (listed w ++ ws) ≡ v) × (drop (width (kindOfValue v)) (listed w ++ ws) ≡ ws)
 
   had-some : (v : ℕ) (ws : List ℕ) → v ≤ maxU64 → Had [] (some v) (maybeWords (decimal v)) ws
   unfolding maybeWords valueIn kindOfValue
@@ -192,10 +194,6 @@ module _ (line : List ℕ) where
   had-unpaired : (ws : List ℕ) → Had [] unpaired (pairWords (ascii "none")) ws
   unfolding pairWords valueIn kindOfValue
   had-unpaired ws = rw is-none (refl, refl, refl)
-
-  no-bytes : (start : ℕ) → bytesOf (part line start start) ≡ []
-  unfolding bytesOf
-  no-bytes start = let z : start - start ≡ 0 = omega arith in rw z
 
   not-dash : (b : ℕ) (s : List ℕ) → isWord (ascii "-") (hexadecimal (b ∷ s)) ≡ false
   unfolding isWord hexadecimal
@@ -213,22 +211,22 @@ module _ (line : List ℕ) where
   had ch absent start end ws h p = had-absent ws
   had ch (pair a b) start end ws h p = rw (pair-read a b (h .0) (h .1)) (refl, refl, refl)
   had ch unpaired start end ws h p = had-unpaired ws
-  had ch (bytes []) start end ws h p = rw is-dash (refl, ap bytes (no-bytes start), refl)
+  had ch (bytes []) start end ws h p = rw is-dash (refl, ap bytes (none start), refl)
   had ch (bytes (b ∷ s)) start end ws h p =
-      rw (not-dash b s, not-empty b s, bytes-taken (b ∷ s) h) (refl, ap bytes (ap bytesOf p ∙ bytes-read (b ∷ s) h), refl)
+      rw (not-dash b s, not-empty b s, bytes-taken (b ∷ s) h) (refl, ap bytes (whole start end b s h p), refl)
   had ch (word k) start end ws h p = rw (h .0) (refl, refl, refl)
 
   -- ---- a line
 
   abbrev Found : Bool → List ℕ → ℕ → List Value → Type 0
-  Found within form at vs = (ws : List ℕ) × (readFrom within form at (textFrom within form vs) ≡ Good ws) × (valuesFrom (get line) within form ws ≡ vs)
+  Found within form at vs = (ws : List ℕ) × (readFrom within form at (textFrom within form vs) ≡ Good ws) × (valuesFrom get within form ws ≡ vs)
 
   abbrev Rest : ℕ → List ℕ → Type 0
   Rest b form = (n : ℕ) (us : List Value) → isFormFrom (opens (kindOf b)) form ≡ true → FitsFrom (opens (kindOf b)) form us
       → drop n line ≡ textFrom (opens (kindOf b)) form us → Found (opens (kindOf b)) form n us
 
   byte-step : (b : ℕ) (form : List ℕ) (at : ℕ) (vs : List Value) → isLiteral (kindOf b) ≡ true → (ws : List ℕ)
-      → readFrom (opens (kindOf b)) form (at + 1) (textFrom (opens (kindOf b)) form vs) ≡ Good ws → valuesFrom (get line) (opens (kindOf b)) form ws ≡ vs
+      → readFrom (opens (kindOf b)) form (at + 1) (textFrom (opens (kindOf b)) form vs) ≡ Good ws → valuesFrom get (opens (kindOf b)) form ws ≡ vs
       → Found false (b ∷ form) at vs
   unfolding readFrom textFrom valuesFrom begins
   byte-step b form at vs e ws p q = let o = shut (kindOf b) e in (ws, rw (e, eq-eqb b b refl) (rw o at p), rw e (rw o at q))
@@ -237,7 +235,7 @@ module _ (line : List ℕ) where
       → lengthBefore 32 (valueText (choice (kindOf b) form) v ++ textFrom (opens (kindOf b)) form us) ≡ length (valueText (choice (kindOf b) form) v)
       → (ws : List ℕ)
       → readFrom (opens (kindOf b)) form (at + length (valueText (choice (kindOf b) form) v)) (textFrom (opens (kindOf b)) form us) ≡ Good ws
-      → valuesFrom (get line) (opens (kindOf b)) form ws ≡ us
+      → valuesFrom get (opens (kindOf b)) form ws ≡ us
       → Had (choice (kindOf b) form) v
       (wordsOf (kindOfValue v) (choice (kindOf b) form) (valueText (choice (kindOf b) form) v) at (at + length (valueText (choice (kindOf b) form) v))) ws
       → Found false (b ∷ form) at (v ∷ us)
@@ -288,9 +286,16 @@ module _ (line : List ℕ) where
           at-byte b form at vs e g (rw o h) (rw o d) f
       go false e g h d f = at-value b form at vs e g (h .0) (h .1) d f
 
+no-bytes : (line : List ℕ) (start : ℕ) → get line start start ≡ []
+unfolding bytesOf
+no-bytes line start = let z : start - start ≡ 0 = omega arith in rw z
+
+all-bytes : (line : List ℕ) (start end b : ℕ) (s : List ℕ) → Bytes (b ∷ s) → part line start end ≡ hexadecimal (b ∷ s) → get line start end ≡ b ∷ s
+all-bytes line start end b s h p = ap bytesOf p ∙ bytes-read (b ∷ s) h
+
 pub back : (form : List ℕ) (vs : List Value) → isForm form ≡ true → Fits form vs → valuesOf form (text form vs) ≡ Good vs
 unfolding valuesOf readForm text isForm Fits
-back form vs g h = let q = found (textFrom false form vs) false form 0 vs g h refl in rw (q .1, q .2)
+back form vs g h = let q = found (textFrom false form vs) (get (textFrom false form vs)) (no-bytes (textFrom false form vs)) (all-bytes (textFrom false form vs)) false form 0 vs g h refl in rw (q .1, q .2)
 
 -- what is read as values is read as words that stand for them
 pub values-read : (form line : List ℕ) (vs : List Value) → valuesOf form line ≡ Good vs
@@ -301,3 +306,51 @@ values-read form line vs = go (readForm form line) refl
     go : (r : Reading (List ℕ)) → readForm form line ≡ r → valued form line r ≡ Good vs → (ws : List ℕ) × (readForm form line ≡ Good ws) × (valuesFrom (get line) false form ws ≡ vs)
     go (Good ws) e h = (ws, e, cc)
     go Bad e h = let z : _≡_ {A = ℕ} 0 1 = cc in absurd (omega arith)
+
+-- ---- bytes of which there are none start where they end
+
+filled : List ℕ → List ℕ
+filled [] = 0 ∷ []
+filled (b ∷ s) = b ∷ s
+
+-- the bytes from a place up to another; where the two are not the same, some
+pub got : List ℕ → ℕ → ℕ → List ℕ
+got line start end = pick (eqb start end) [] (filled (get line start end))
+
+pub got-none : (line : List ℕ) (start end : ℕ) → got line start end ≡ [] → start ≡ end
+unfolding got filled
+got-none line start end = go (eqb start end) refl (get line start end)
+  where
+    go : (t : Bool) → eqb start end ≡ t → (s : List ℕ) → pick t [] (filled s) ≡ [] → start ≡ end
+    go true e s h = eqb-true start end e
+    go false e [] h = let z : _≡_ {A = ℕ} 0 1 = ap length (sym h) in absurd (omega arith)
+    go false e (b ∷ s) h = let z : suc (length s) ≡ 0 = ap length h in absurd (omega arith)
+
+nowhere : (line : List ℕ) (start : ℕ) → got line start start ≡ []
+unfolding got
+nowhere line start = rw (eq-eqb start start refl)
+
+somewhere : (line : List ℕ) (start end b : ℕ) (s : List ℕ) → Bytes (b ∷ s) → part line start end ≡ hexadecimal (b ∷ s) → got line start end ≡ b ∷ s
+unfolding got filled hexadecimal
+somewhere line start end b s h p = rw (ne-eqb start end apart, all-bytes line start end b s h p)
+  where
+    apart : start ≡ end → ⊥
+    apart e =
+        let z : end - start ≡ 0 = omega arith in
+        let l : length (part line start end) ≡ 0 = rw z in
+        let k : length (part line start end) ≡ suc (suc (length (hexadecimal s))) = ap length p in
+        absurd (omega arith)
+
+-- the words that a line of values is read as: they stand for those values, and for those whose empty bytes start where they end
+pub words-read : (form : List ℕ) (vs : List Value) → isForm form ≡ true → Fits form vs
+    → (ws : List ℕ) × (readForm form (text form vs) ≡ Good ws) × (valuesFrom (get (text form vs)) false form ws ≡ vs) × (valuesFrom (got (text form vs)) false form ws ≡ vs)
+unfolding readForm text isForm Fits
+words-read form vs g h =
+    let line = textFrom false form vs in
+    let p = found (textFrom false form vs) (get (textFrom false form vs)) (no-bytes (textFrom false form vs)) (all-bytes (textFrom false form vs)) false form 0 vs g h refl in
+    let q = found (textFrom false form vs) (got (textFrom false form vs)) (nowhere (textFrom false form vs)) (somewhere (textFrom false form vs)) false form 0 vs g h refl in
+    let e : p .0 ≡ q .0 = same (p .0) (q .0) (sym (p .1) ∙ q .1) in
+    (p .0, p .1, p .2, rw (sym e) at (q .2))
+  where
+    same : (a b : List ℕ) → _≡_ {A = Reading (List ℕ)} (Good a) (Good b) → a ≡ b
+    same a b e = cc

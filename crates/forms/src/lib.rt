@@ -11,6 +11,7 @@ ghost use Rattle.text.specs.Decimal.{decimalOf};
 ghost use Rattle.forms.specs.Forms.{kindOf, isLiteral, choiceLength, behindChoice, split, numberWords, maybeWords, pairWords, bytesWords, whichWord, wordsOf, listed, isGood, isRead, readForm, Stored, Reading};
 ghost use Rattle.text.specs.Hexadecimal.{bytesText};
 ghost use Rattle.forms.specs.Texts.{Value, wordAt, maybeText, pairText, valueText, text, Fits, isForm, width, valueIn, valuesIn, part, valuesOf};
+ghost use Rattle.forms.specs.Tables.{allDiffer, ShareNoLine};
 
 // What a byte of a form stands for: itself, or a value.
 pub enum Kind {
@@ -414,4 +415,9 @@ pub fn put_form(form: &[u8], words: &[u64], source: &[u8], out: &mut [u8], at: u
 pub fn form_round_trip()
     ensures read { λ r. ⌜ ((form : List ℕ) (vs : List Value) → isForm form ≡ true → Fits form vs → valuesOf form (text form vs) ≡ Reading.Good vs) ⌝ }
     ensures only { λ r. ⌜ ((form line : List ℕ) (vs : List Value) → valuesOf form line ≡ Reading.Good vs → line ≡ text form vs) ⌝ }
+{}
+
+// Forms that differ at a byte that stands for itself, behind bytes that do so and are the same, share no line.
+pub fn different_forms_share_no_line()
+    ensures { λ r. ⌜ ((forms : List (List ℕ)) → allDiffer forms ≡ true → ShareNoLine forms) ⌝ }
 {}

@@ -39,12 +39,12 @@ zeros-long n h = omega (arith, length-replicate {A = ℕ} n 0)
 -- a first line that is not good prints its refusal, for which there is room
 refusing : (f : First) → isGood f ≡ false → (out : List ℕ) → 4 * room ≤ length out
     → take (behind out 0 (openingText f)) (printed out 0 (openingText f)) ≡ openingText f
-refusing (first.Settings handshake upgrade exchange punch interval payload private upgrades) g out h = apart g
+refusing (first.Settings s) g out h = apart g
 refusing first.Unknown g out h = fits out (openingText first.Unknown) (omega (arith, short (isRefused 0 UnknownLine (omega arith))))
 
 -- a good one prints nothing
 silent : (f : First) → isGood f ≡ true → openingText f ≡ []
-silent (first.Settings handshake upgrade exchange punch interval payload private upgrades) g = refl
+silent (first.Settings s) g = refl
 silent first.Unknown g = apart (sym g)
 
 -- and a line feed ends it

@@ -25,22 +25,12 @@ unfoldable pub firstOf : List ℕ → Bool → First
 firstOf line ended = pick (both ended (ltb (length line) longest)) (settingsOf line) first.Unknown
 
 abbrev pub isGood : First → Bool
-isGood (first.Settings handshake upgrade exchange punch interval payload private upgrades) = true
+isGood (first.Settings s) = true
 isGood first.Unknown = false
 
 -- the settings of every circuit; where there are none the program ends and none is used
 abbrev pub settingsIn : First → Settings
-settingsIn (first.Settings handshake upgrade exchange punch interval payload private upgrades) =
-    record {
-      handshake = handshake;
-      upgrade = upgrade;
-      exchange = exchange;
-      punch = punch;
-      interval = interval;
-      payload = payload;
-      private = private;
-      upgrades = upgrades;
-    }
+settingsIn (first.Settings s) = s
 settingsIn first.Unknown =
     record { handshake = 0; upgrade = 0; exchange = 0; punch = 0; interval = 0; payload = 0; private = false; upgrades = false }
 
@@ -49,7 +39,7 @@ opened f = newJournal (settingsIn f)
 
 -- a good first line prints nothing, any other n=0 and 11
 abbrev pub openingText : First → List ℕ
-openingText (first.Settings handshake upgrade exchange punch interval payload private upgrades) = []
+openingText (first.Settings s) = []
 openingText first.Unknown = refusedText 0 UnknownLine
 
 -- ---- the lines behind it (section 12.7)

@@ -47,39 +47,17 @@ fn settings_in(first: First) -> Settings
     ensures { λ r. ⌜ r ≡ settingsIn first ⌝ }
 {
     match first {
-        First::Settings {
-            handshake,
-            upgrade,
-            exchange,
-            punch,
-            interval,
-            payload,
-            private,
-            upgrades,
-        } => {
-            return Settings {
-                handshake: handshake,
-                upgrade: upgrade,
-                exchange: exchange,
-                punch: punch,
-                interval: interval,
-                payload: payload,
-                private: private,
-                upgrades: upgrades,
-            };
-        }
-        First::Unknown => {
-            return Settings {
-                handshake: 0,
-                upgrade: 0,
-                exchange: 0,
-                punch: 0,
-                interval: 0,
-                payload: 0,
-                private: false,
-                upgrades: false,
-            };
-        }
+        First::Settings(settings) => settings,
+        First::Unknown => Settings {
+            handshake: 0,
+            upgrade: 0,
+            exchange: 0,
+            punch: 0,
+            interval: 0,
+            payload: 0,
+            private: false,
+            upgrades: false,
+        },
     }
 }
 
@@ -95,7 +73,7 @@ pub fn open_journal(line: &[u8], ended: bool, out: &mut [u8], at: usize) -> Open
     let settings = settings_in(first);
     let state = journal_turns::new_journal(settings);
     match first {
-        First::Settings { .. } => {
+        First::Settings(_) => {
             return Opening {
                 good: true,
                 state: state,

@@ -45,13 +45,12 @@ use Rattle.lent.specs.Calls as call
 use Rattle.lent.specs.Carried.{noFrame, noAims}
 use Rattle.inbound.specs.Circuits.{decidedAt}
 use Rattle.lent.proofs.Turned.{Whole, up-whole, tick-whole, input-whole}
-use Rattle.journal_lines.specs.declared.Kind.{Kind}
 use Rattle.journal_lines.specs.declared.Line.{Line}
 use Rattle.journal_turns.specs.declared.State.{State}
 use Rattle.journal_turns.specs.declared.Turn.{Turn}
 use Rattle.journal_turns.specs.declared.Said.the-variants as said
 use Rattle.lines.specs.Lines.{longest}
-use Rattle.journal_turns.specs.Turns.{Journal, stateOf, whole, Turned, turned, silent, refused, naming, saying, effectsOf, settledIn, Leaves, settled, inputOf, startedBy, startTurn, startedIn, clearedBy, started, ledgerBy, upTurn, Taken, inputTurn, expired, tickTurn, wroteTurn, downTurn, saidOf, dialedBy, dialTurn, withLedger, forgetTurn, claimFor, namedBy, attributeTurn, namedAs, counted, apart, needsStart, callTurn, turnOf, read, lineTurn}
+use Rattle.journal_turns.specs.Turns.{Journal, stateOf, whole, Turned, turned, silent, refused, naming, saying, effectsOf, settledIn, Leaves, settled, startedBy, startTurn, startedIn, clearedBy, started, ledgerBy, upTurn, Taken, inputTurn, expired, tickTurn, wroteTurn, downTurn, saidOf, dialedBy, dialTurn, withLedger, forgetTurn, claimFor, namedBy, attributeTurn, namedAs, counted, apart, needsStart, callTurn, turnOf, read, lineTurn}
 
 -- ---- what a refused decision leaves
 
@@ -181,30 +180,29 @@ module _ (s : State) (connect targets ws sent : List ℕ) (long : length ws ≡ 
           ap (λ (o : Outcome). laid (expired o l (h .at)) (laid l ws)) e
           ∙ ap (λ (z : List ℕ). laid l z) (stays-words own d w why e) ∙ stays-words own d w why e
 
-  pub input-left : (h : Host) (own reply : List ℕ) (stream : StreamId) (k : Kind) (bytes : List ℕ) (pending : Bool) {x : StreamInput} {e : Decision}
-      {r : Turn} {c a n zs b : List ℕ} → x ≡ inputOf k → r ≡ settledIn s e (e .outcome)
-      → (e ≡ decidedAt (j .circuit) (tablesOf ws) h own reply stream x bytes pending)
-      × ((c ≡ connectAfter (termsOf (s .core .settings)) own connect (decidedAt (j .circuit) (tablesOf ws) h own reply stream x bytes pending .fourth))
-      × ((a ≡ targetsAfter targets (peeked (s .core) reply bytes .targets) (decidedAt (j .circuit) (tablesOf ws) h own reply stream x bytes pending .window))
-      × ((n ≡ sentAfter connect sent (decidedAt (j .circuit) (tablesOf ws) h own reply stream x bytes pending .message))
-      × ((tablesOf zs ≡ ledgerAfter (s .core .source) (tablesOf ws) (decidedAt (j .circuit) (tablesOf ws) h own reply stream x bytes pending .window))
-      × ((zs ≡ laid (ledgerAfter (s .core .source) (tablesOf ws) (decidedAt (j .circuit) (tablesOf ws) h own reply stream x bytes pending .window)) ws)
-      × (b ≡ bufferAfter (s .core) (h .at) reply stream x bytes (decidedAt (j .circuit) (tablesOf ws) h own reply stream x bytes pending .outcome)))))))
+  pub input-left : (h : Host) (own reply : List ℕ) (stream : StreamId) (k : StreamInput) (bytes : List ℕ) (pending : Bool) {e : Decision}
+      {r : Turn} {c a n zs b : List ℕ} → r ≡ settledIn s e (e .outcome)
+      → (e ≡ decidedAt (j .circuit) (tablesOf ws) h own reply stream k bytes pending)
+      × ((c ≡ connectAfter (termsOf (s .core .settings)) own connect (decidedAt (j .circuit) (tablesOf ws) h own reply stream k bytes pending .fourth))
+      × ((a ≡ targetsAfter targets (peeked (s .core) reply bytes .targets) (decidedAt (j .circuit) (tablesOf ws) h own reply stream k bytes pending .window))
+      × ((n ≡ sentAfter connect sent (decidedAt (j .circuit) (tablesOf ws) h own reply stream k bytes pending .message))
+      × ((tablesOf zs ≡ ledgerAfter (s .core .source) (tablesOf ws) (decidedAt (j .circuit) (tablesOf ws) h own reply stream k bytes pending .window))
+      × ((zs ≡ laid (ledgerAfter (s .core .source) (tablesOf ws) (decidedAt (j .circuit) (tablesOf ws) h own reply stream k bytes pending .window)) ws)
+      × (b ≡ bufferAfter (s .core) (h .at) reply stream k bytes (decidedAt (j .circuit) (tablesOf ws) h own reply stream k bytes pending .outcome)))))))
       → (Left (inputTurn j h own reply stream k bytes pending .turn) r c a n zs) × (b ≡ inputTurn j h own reply stream k bytes pending .reply)
   unfolding inputTurn
-  input-left h own reply stream k bytes pending {x} {e} {r} {c} {a} {n} {zs} {b} i q p =
-      rw (← i) (
-        settled-left d _
-            (λ why e. (stays-connect own d w why e, (stays-aims own d w (peeked (s .core) reply bytes .targets) why e, (stays-ledger own d w why e, (stays-words own d w why e, stays-sent own d w why e)))))
-            (q ∙ ap (λ (z : Decision). settledIn s z (z .outcome)) (p .0)) (p .1 .0) (p .1 .1 .0) (p .1 .1 .1 .0) (p .1 .1 .1 .1 .0) (p .1 .1 .1 .1 .1 .0),
-        p .1 .1 .1 .1 .1 .1,
-      )
+  input-left h own reply stream k bytes pending {e} {r} {c} {a} {n} {zs} {b} q p = (
+    settled-left d _
+        (λ why e. (stays-connect own d w why e, (stays-aims own d w (peeked (s .core) reply bytes .targets) why e, (stays-ledger own d w why e, (stays-words own d w why e, stays-sent own d w why e)))))
+        (q ∙ ap (λ (z : Decision). settledIn s z (z .outcome)) (p .0)) (p .1 .0) (p .1 .1 .0) (p .1 .1 .1 .0) (p .1 .1 .1 .1 .0) (p .1 .1 .1 .1 .1 .0),
+    p .1 .1 .1 .1 .1 .1,
+  )
     where
       d : Decision
-      d = decidedAt (j .circuit) (tablesOf ws) h own reply stream x bytes pending
+      d = decidedAt (j .circuit) (tablesOf ws) h own reply stream k bytes pending
 
       w : Whole (s .core) d
-      w = input-whole (s .core) _ h own reply stream x bytes pending
+      w = input-whole (s .core) _ h own reply stream k bytes pending
 
   -- ---- wrote and down
 

@@ -9,9 +9,7 @@ use Rattle.prelude.specs.Choice.{pick, both, no}
 use Rattle.time.specs.Time.{plus}
 use Rattle.text.specs.Hexadecimal.{bytesOf}
 use Rattle.lines.specs.Lines.{longest}
-use Rattle.fields.specs.Fields.{part}
-use Rattle.fields.specs.declared.Maybe.{Maybe}
-use Rattle.fields.specs.declared.Pair.{Pair}
+use Rattle.forms.specs.Texts.{part}
 use Rattle.refusal.specs.declared.Refusal.{Refusal}
 use Rattle.refusal.specs.declared.Refusal.the-variants.{UnknownLine, NotStarted}
 use Rattle.ids.specs.declared.PeerId.{PeerId}
@@ -46,23 +44,16 @@ use Rattle.inbound.specs.Circuits.{decidedAt}
 use Rattle.circuit.specs.Questions.{claimOf}
 use Rattle.journal_lines.specs.Lines.{lineOf}
 use Rattle.journal_lines.specs.declared.Digits.{Digits}
-use Rattle.journal_lines.specs.declared.Kind.{Kind}
 use Rattle.journal_lines.specs.declared.Line.{Line}
 use Rattle.journal_lines.specs.declared.Line.the-variants.{Start, Up, Input, Tick, Wrote, Down, Dial, Forget, Attribute, Unknown}
 use Rattle.journal_effects.specs.declared.Effects.{Effects}
 use Rattle.journal_turns.specs.declared.State.{State}
 use Rattle.journal_turns.specs.declared.Said.{Said}
 use Rattle.journal_turns.specs.declared.Turn.{Turn}
-use Rattle.fields.specs.declared.Maybe.the-variants as maybe
-use Rattle.fields.specs.declared.Pair.the-variants as pair
 use Rattle.path.specs.declared.Claim.the-variants as claim
 use Rattle.path.specs.declared.FoundPath.the-variants as found
 use Rattle.ledger.specs.declared.Answer.the-variants as name
-use Rattle.vocabulary.specs.declared.Live.the-variants as live
-use Rattle.vocabulary.specs.declared.Offer.the-variants as offer
-use Rattle.vocabulary.specs.declared.StreamInput.the-variants as input
 use Rattle.vocabulary.specs.declared.Outcome.the-variants as outcome
-use Rattle.journal_lines.specs.declared.Kind.the-variants as kind
 use Rattle.journal_turns.specs.declared.Said.the-variants as said
 
 -- ---- the journal
@@ -224,23 +215,9 @@ settled j d x (outcome.Refused why) = refused j why
 abbrev pub digitsBytes : List ℕ → Digits → List ℕ
 digitsBytes line d = bytesOf (part line (d .start) (d .end))
 
-abbrev pub liveOf : Maybe → Live
-liveOf (maybe.Number v) = live.On (record { 0 = v })
-liveOf maybe.None = live.Nothing
-
-abbrev pub offerOf : Pair → Offer
-offerOf (pair.Numbers conn stream) = offer.Stream (record { 0 = conn }) (record { 0 = stream })
-offerOf pair.None = offer.Nothing
-
 -- the host's answers: a reading, the live connection, the offer
-unfoldable pub hostOf : ℕ → Maybe → Pair → Host
-hostOf at l o = record { at = at; live = liveOf l; offer = offerOf o }
-
-abbrev pub inputOf : Kind → StreamInput
-inputOf kind.Ready = input.Ready
-inputOf kind.Data = input.Data
-inputOf kind.End = input.RemoteWriteClosed
-inputOf kind.Closed = input.Closed
+unfoldable pub hostOf : ℕ → Live → Offer → Host
+hostOf at l o = record { at = at; live = l; offer = o }
 
 -- ---- the calls (section 12.5)
 
@@ -304,9 +281,9 @@ abbrev pub heard : Journal → ℕ → (own reply : List ℕ) → StreamId → S
 heard j at own reply stream k bytes d =
     record { turn = heardBy j own reply bytes d; reply = bufferAfter (j .circuit .core) at reply stream k bytes (d .outcome) }
 
-unfoldable pub inputTurn : Journal → Host → (own reply : List ℕ) → StreamId → Kind → (bytes : List ℕ) → (pending : Bool) → Taken
+unfoldable pub inputTurn : Journal → Host → (own reply : List ℕ) → StreamId → StreamInput → (bytes : List ℕ) → (pending : Bool) → Taken
 inputTurn j h own reply stream k bytes pending =
-    heard j (h .at) own reply stream (inputOf k) bytes (decidedAt (j .circuit) (j .ledger) h own reply stream (inputOf k) bytes pending)
+    heard j (h .at) own reply stream k bytes (decidedAt (j .circuit) (j .ledger) h own reply stream k bytes pending)
 
 -- tick (section 11.6): the ledger is ticked behind the circuit (section 10.3), and not where the tick is refused
 abbrev pub expired : Outcome → PathLedger → ℕ → PathLedger

@@ -3,8 +3,6 @@
 use circuit::decision;
 use circuit::decision::Decision;
 use circuit::state::Core;
-use fields::Maybe;
-use fields::Pair;
 use frames::FrameBytes;
 use ids::ConnectId;
 use ids::ConnectionId;
@@ -13,7 +11,6 @@ use ids::PeerId;
 use ids::StreamId;
 use journal_effects::Effects;
 use journal_lines::Digits;
-use journal_lines::Kind;
 use journal_lines::Line;
 use ledger::Ledger;
 use lent::TargetBytes;
@@ -39,7 +36,7 @@ ghost use Rattle.lent.specs.Carried.{sentAfter, ledgerAfter, connectAfter, noFr
 ghost use Rattle.circuit.specs.Calls.{startedOf, wroteOf, downOf};
 ghost use Rattle.lent.specs.Calls.{upOf, tickOf};
 ghost use Rattle.lines.specs.Lines.{longest};
-ghost use Rattle.journal_turns.specs.Turns.{whole, stateOf, turned, noEffects, newJournal, saying, effectsOf, settledIn, digitsBytes, liveOf, offerOf, hostOf, inputOf, startedIn, clearedBy, inputTurn, expired, claimFor, saidOf, namedAs, needsStart, callTurn, turnOf, lineTurn};
+ghost use Rattle.journal_turns.specs.Turns.{whole, stateOf, turned, noEffects, newJournal, saying, effectsOf, settledIn, digitsBytes, hostOf, startedIn, clearedBy, inputTurn, expired, claimFor, saidOf, namedAs, needsStart, callTurn, turnOf, lineTurn};
 
 // ---- the state
 
@@ -184,44 +181,13 @@ fn few_zeros() -> FewBytes
     [0u8; SHORT / 2]
 }
 
-fn live_of(live: Maybe) -> Live
-    ensures { λ r. ⌜ r ≡ liveOf live ⌝ }
-{
-    match live {
-        Maybe::Number(v) => Live::On(ConnectionId(v)),
-        Maybe::None => Live::Nothing,
-    }
-}
-
-fn offer_of(offer: Pair) -> Offer
-    ensures { λ r. ⌜ r ≡ offerOf offer ⌝ }
-{
-    match offer {
-        Pair::Numbers { first, second } => Offer::Stream(ConnectionId(first), StreamId(second)),
-        Pair::None => Offer::Nothing,
-    }
-}
-
-fn host_at(at: u64, live: Maybe, offer: Pair) -> Host
+fn host_at(at: u64, live: Live, offer: Offer) -> Host
     ensures { λ r. ⌜ r ≡ hostOf at live offer ⌝ }
 {
-    let on = live_of(live);
-    let offered = offer_of(offer);
     Host {
         at: at,
-        live: on,
-        offer: offered,
-    }
-}
-
-fn input_of(kind: Kind) -> StreamInput
-    ensures { λ r. ⌜ r ≡ inputOf kind ⌝ }
-{
-    match kind {
-        Kind::Ready => StreamInput::Ready,
-        Kind::Data => StreamInput::Data,
-        Kind::End => StreamInput::RemoteWriteClosed,
-        Kind::Closed => StreamInput::Closed,
+        live: live,
+        offer: offer,
     }
 }
 
@@ -302,8 +268,8 @@ fn up_line(
     sent: &mut FrameBytes,
     ledger: &mut Ledger,
     at: u64,
-    live: Maybe,
-    offer: Pair,
+    live: Live,
+    offer: Offer,
     own: Digits,
     peer: PeerId,
     conn: ConnectionId,
@@ -357,7 +323,7 @@ fn input_turn(
     host: Host,
     own: &[u8],
     stream: StreamId,
-    kind: Kind,
+    kind: StreamInput,
     bytes: &[u8],
     pending: bool,
 ) -> Turn
@@ -366,7 +332,6 @@ fn input_turn(
 {
     rows::known(ledger);
     let core = j.core;
-    let input = input_of(kind);
     let d = lent::calls::on_dcutr_stream_input(
         core,
         connect,
@@ -377,7 +342,7 @@ fn input_turn(
         host,
         own,
         stream,
-        input,
+        kind,
         bytes,
         pending,
     );
@@ -393,11 +358,11 @@ fn input_line(
     ledger: &mut Ledger,
     reply: &mut [u8],
     at: u64,
-    live: Maybe,
-    offer: Pair,
+    live: Live,
+    offer: Offer,
     own: Digits,
     stream: StreamId,
-    kind: Kind,
+    kind: StreamInput,
     bytes: Digits,
     pending: bool,
 ) -> Turn
@@ -485,8 +450,8 @@ fn tick_line(
     sent: &mut FrameBytes,
     ledger: &mut Ledger,
     at: u64,
-    live: Maybe,
-    offer: Pair,
+    live: Live,
+    offer: Offer,
     own: Digits,
 ) -> Turn
     requires { ⌜ length (now line) < longest ⌝ }
