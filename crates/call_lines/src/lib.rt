@@ -1,6 +1,8 @@
 // A line of the test program: its call made, on what is kept and the ledger, and its answer printed.
 ghost use mathlib.Core.Path.{_≡_};
 ghost use Rattle.text.specs.Printed.{printed, behind};
+ghost use Rattle.forms.specs.Tables.{ShareNoLine};
+ghost use Rattle.call_lines.specs.Shared.{rowForms};
 ghost use Rattle.call_lines.specs.Turns.{turnOf, isWhole, lineTurn};
 use ledger::Ledger;
 use library_calls::Kept;
@@ -65,3 +67,8 @@ pub fn answer_line(
         end: end,
     }
 }
+
+// A line that two rows of these tables read shows them to be the same.
+pub fn no_two_rows_share_a_line()
+    ensures { λ r. ⌜ ShareNoLine rowForms ⌝ }
+{}
