@@ -111,13 +111,16 @@ pub fn call_of(table: &[u8], line: &[u8]) -> Call
 
 // ---- its bytes
 
+// Room for a line.
+pub type Line = [u8; lines::LONGEST];
+
 // They are the first `len`.
 pub struct Bytes {
-    pub bytes: [u8; lines::LONGEST],
+    pub bytes: Line,
     pub len: usize,
 }
 
-fn blank() -> [u8; lines::LONGEST]
+pub fn blank() -> Line
     ensures { λ r. ⌜ r ≡ blank ⌝ }
 {
     [0; lines::LONGEST]
@@ -151,14 +154,17 @@ pub fn bytes_in(line: &[u8], start: u64, end: u64) -> Bytes
 
 // ---- an answer
 
+// The bytes that an answer may show.
+pub type Shown = [u8; 8192];
+
 // Which of its row's, its words, and the bytes that it shows.
 pub struct Said {
     pub answer: usize,
     pub words: [u64; 6],
-    pub bytes: [u8; 8192],
+    pub bytes: Shown,
 }
 
-pub fn no_bytes() -> [u8; 8192]
+pub fn no_bytes() -> Shown
     ensures { λ r. ⌜ r ≡ noBytes ⌝ }
 {
     [0; 8192]
@@ -174,7 +180,7 @@ pub fn say(answer: usize, words: [u64; 6]) -> Said
     }
 }
 
-pub fn show(answer: usize, words: [u64; 6], bytes: [u8; 8192]) -> Said
+pub fn show(answer: usize, words: [u64; 6], bytes: Shown) -> Said
     ensures { λ r. ⌜ r ≡ shows answer words bytes ⌝ }
 {
     Said {

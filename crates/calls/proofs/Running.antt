@@ -15,10 +15,10 @@ use Rattle.text.proofs.Printing.{fits, fits-place, full-place}
 use Rattle.lines.specs.Lines.{longest}
 use Rattle.line_program.specs.declared.Reading.{Reading}
 use Rattle.line_program.specs.Reads.{left, feed, NextLine}
-use Rattle.calls.specs.Turns.{Turn, turn, turnOf, lineTurn}
+use Rattle.call_lines.specs.Turns.{Turn, turn, turnOf, lineTurn}
 use Rattle.calls.specs.Steps.{isLine, stepOf}
 use Rattle.calls.specs.Runs.{Got, gotTurn, bytesOf, taken, Ran}
-use Rattle.calls.specs.declared.Kept.{Kept}
+use Rattle.library_calls.specs.declared.Kept.{Kept}
 use Rattle.calls.specs.declared.Step.{Step}
 
 never : (ended : Bool) → both ended false ≡ false

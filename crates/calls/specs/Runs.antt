@@ -7,9 +7,9 @@ use mathlib.Core.List.{List, [], _∷_, _++_}
 use lib.ListN.{length}
 use Rattle.prelude.specs.Choice.{pick}
 use Rattle.line_program.specs.Reads.{left, feed}
-use Rattle.calls.specs.Turns.{Turn, turn, lineTurn}
+use Rattle.call_lines.specs.Turns.{Turn, turn, lineTurn}
 use Rattle.calls.specs.Steps.{isLine}
-use Rattle.calls.specs.declared.Kept.{Kept}
+use Rattle.library_calls.specs.declared.Kept.{Kept}
 use Rattle.calls.specs.declared.Step.{Step}
 
 -- what a step read: bytes without a line feed, whether one ended them, and whether reading failed

@@ -6,8 +6,8 @@ use lib.Dec.{ltb}
 use lib.ListN.{take}
 use Rattle.prelude.specs.Choice.{pick, both, either, no}
 use Rattle.line_program.specs.declared.Reading.{Reading}
-use Rattle.calls.specs.Turns.{Turn, turn, lineTurn}
-use Rattle.calls.specs.declared.Kept.{Kept}
+use Rattle.call_lines.specs.Turns.{Turn, turn, lineTurn}
+use Rattle.library_calls.specs.declared.Kept.{Kept}
 
 -- whether a line was read: a line feed ended it, or some bytes stand before the input's end
 abbrev pub isLine : Bool → Bool → ℕ → Bool

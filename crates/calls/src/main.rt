@@ -5,116 +5,12 @@ ghost use Prim.Native.Nat.{_≤_};
 ghost use lib.ListN.{length};
 ghost use Rattle.text.specs.Printed.{printed, behind};
 ghost use Rattle.line_program.specs.Reads.{left, NextLine};
-ghost use Rattle.calls.specs.Turns.{turnOf, isWhole, lineTurn};
 ghost use Rattle.lines.specs.Lines.{longest};
 ghost use Rattle.calls.specs.Steps.{isLine, stepOf};
 ghost use Rattle.calls.specs.Runs.{Ran};
 use ledger::Ledger;
-use library_calls::budgets;
-use library_calls::choices;
-use library_calls::messages;
-use library_calls::schedules;
+use library_calls::Kept;
 use line_program::Reading;
-use schedule::BlastSchedule;
-
-// What is kept from line to line, beside the ledger.
-pub struct Kept {
-    pub budget: budgets::Kept,
-    pub schedule: BlastSchedule,
-}
-
-// What is kept after a line, and where its answer ends in the buffer.
-pub struct Answered {
-    pub kept: Kept,
-    pub end: usize,
-}
-
-// A line without its line feed, by the first table that has its form; the ledger's is the last.
-fn answer(kept: Kept, ledger: &mut Ledger, line: &[u8], out: &mut [u8]) -> Answered
-    ensures kept { λ r. ⌜ r .kept ≡ turnOf kept (now (ledger .entry)) (now (line .entry)) .kept ⌝ }
-    ensures words { λ r. ⌜ now (ledger .exit) ≡ turnOf kept (now (ledger .entry)) (now (line .entry)) .words ⌝ }
-    ensures bytes { λ r. ⌜ now (out .exit) ≡ printed (now (out .entry)) 0 (turnOf kept (now (ledger .entry)) (now (line .entry)) .text) ⌝ }
-    ensures place { λ r. ⌜ r .end ≡ behind (now (out .entry)) 0 (turnOf kept (now (ledger .entry)) (now (line .entry)) .text) ⌝ }
-{
-    let budget = kept.budget;
-    let schedule = kept.schedule;
-    let m = messages::answer(line, out);
-    if m.found {
-        return Answered {
-            kept: kept,
-            end: m.end,
-        };
-    }
-    let c = choices::answer(line, out);
-    if c.found {
-        return Answered {
-            kept: kept,
-            end: c.end,
-        };
-    }
-    let b = budgets::answer(budget, line, out);
-    if b.found {
-        let next = b.kept;
-        return Answered {
-            kept: Kept {
-                budget: next,
-                schedule: schedule,
-            },
-            end: b.end,
-        };
-    }
-    let s = schedules::answer(schedule, line, out);
-    if s.found {
-        let next = s.schedule;
-        return Answered {
-            kept: Kept {
-                budget: budget,
-                schedule: next,
-            },
-            end: s.end,
-        };
-    }
-    let end = ledger_calls::answer(ledger, line, out);
-    Answered {
-        kept: kept,
-        end: end,
-    }
-}
-
-// Whether a line feed ended a line that is not too long with it.
-fn is_whole(size: usize, ended: bool) -> bool
-    ensures { λ r. ⌜ r ≡ isWhole size ended ⌝ }
-{
-    if ended {
-        return size < lines::LONGEST;
-    }
-    false
-}
-
-// Another is bad.
-fn answer_line(
-    kept: Kept,
-    ledger: &mut Ledger,
-    line: &[u8],
-    ended: bool,
-    out: &mut [u8],
-) -> Answered
-    ensures kept { λ r. ⌜ r .kept ≡ lineTurn kept (now (ledger .entry)) (now (line .entry)) ended .kept ⌝ }
-    ensures words { λ r. ⌜ now (ledger .exit) ≡ lineTurn kept (now (ledger .entry)) (now (line .entry)) ended .words ⌝ }
-    ensures bytes { λ r. ⌜ now (out .exit) ≡ printed (now (out .entry)) 0 (lineTurn kept (now (ledger .entry)) (now (line .entry)) ended .text) ⌝ }
-    ensures place { λ r. ⌜ r .end ≡ behind (now (out .entry)) 0 (lineTurn kept (now (ledger .entry)) (now (line .entry)) ended .text) ⌝ }
-{
-    if is_whole(line.len(), ended) {
-        return answer(kept, ledger, line, out);
-    }
-    let end = text::put_text(b"bad\n", out, 0);
-    Answered {
-        kept: kept,
-        end: end,
-    }
-}
-
-// ---- the program
 
 // Whether a line was read, and not the input's end or a failure. An empty line without a line feed is none.
 fn is_line(failed: bool, ended: bool, used: usize) -> bool
@@ -156,7 +52,7 @@ fn take_step(
     let s = line_program::next_line(block, line, from, until);
     if is_line(s.failed, s.ended, s.used) {
         let used = s.used;
-        let a = answer_line(kept, ledger, &line[..used], s.ended, out);
+        let a = call_lines::answer_line(kept, ledger, &line[..used], s.ended, out);
         let next = a.kept;
         let written = line_program::print(out, a.end);
         return Step {
@@ -200,12 +96,9 @@ fn run(block: &mut [u8], line: &mut [u8], ledger: &mut Ledger, out: &mut [u8], k
 
 fn main() {
     let mut block = io::large_buffer();
-    let mut line = [0u8; lines::LONGEST];
+    let mut line = call_table::blank();
     let mut out = io::large_buffer();
     let mut ledger = ledger::empty();
-    let kept = Kept {
-        budget: budgets::Kept::Unarmed,
-        schedule: BlastSchedule::Over,
-    };
+    let kept = library_calls::nothing();
     run(&mut block, &mut line, &mut ledger, &mut out, kept);
 }

@@ -2,3 +2,4 @@ pub mod Messaging
 pub mod Choosing
 pub mod Budgeting
 pub mod Scheduling
+pub mod Lining

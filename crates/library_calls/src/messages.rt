@@ -9,6 +9,7 @@ ghost use Rattle.call_table.specs.Tables.{callOf};
 ghost use Rattle.library_calls.specs.Messages.{varintSaid, encodeSaid, frameSaid, listSaid, filler, kindPlace, decodedSaid, readSaid, encodedSaid, writeSaid, messageSaid, textBy, messagesText, messagesTable};
 use call_table::Answered;
 use call_table::Said;
+use call_table::Shown;
 use message::Decoded;
 use message::Encoded;
 use message::Kind;
@@ -72,8 +73,11 @@ fn list(bytes: &[u8]) -> Said
     call_table::say(1, [n as u64, 0, 0, 0, 0, 0])
 }
 
-// The longest buffer that a line may ask for, filled so that it shows what a call wrote.
-fn filled() -> [u8; 8192]
+// The longest buffer that a line may ask for.
+const ROOM: u64 = 8192;
+
+// Filled so that it shows what a call wrote.
+fn filled() -> Shown
     ensures { λ r. ⌜ r ≡ filler 8192 ⌝ }
 {
     [0xee; 8192]
@@ -88,7 +92,7 @@ fn kind_place(kind: Kind) -> u64
     }
 }
 
-fn decoded_said(d: Decoded, room: u64, buffer: [u8; 8192]) -> Said
+fn decoded_said(d: Decoded, room: u64, buffer: Shown) -> Said
     ensures { λ r. ⌜ r ≡ decodedSaid d room buffer ⌝ }
 {
     match d {
@@ -106,7 +110,7 @@ fn decoded_said(d: Decoded, room: u64, buffer: [u8; 8192]) -> Said
 fn read(bytes: &[u8], room: u64) -> Said
     ensures { λ r. ⌜ r ≡ readSaid (now (bytes .entry)) room ⌝ }
 {
-    if 8192 < room {
+    if ROOM < room {
         return call_table::say(3, [0; 6]);
     }
     let n = room as usize;
@@ -115,7 +119,7 @@ fn read(bytes: &[u8], room: u64) -> Said
     decoded_said(d, room, buffer)
 }
 
-fn encoded_said(e: Encoded, room: u64, buffer: [u8; 8192]) -> Said
+fn encoded_said(e: Encoded, room: u64, buffer: Shown) -> Said
     ensures { λ r. ⌜ r ≡ encodedSaid e room buffer ⌝ }
 {
     match e {
@@ -131,7 +135,7 @@ fn encoded_said(e: Encoded, room: u64, buffer: [u8; 8192]) -> Said
 fn write(kind: Kind, bytes: &[u8], room: u64) -> Said
     ensures { λ r. ⌜ r ≡ writeSaid kind (now (bytes .entry)) room ⌝ }
 {
-    if 8192 < room {
+    if ROOM < room {
         return call_table::say(3, [0; 6]);
     }
     let n = room as usize;

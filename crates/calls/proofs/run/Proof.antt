@@ -6,7 +6,7 @@ use native.Mathlib.Omega.{arith}
 use lib.ListN.{length}
 use Rattle.lines.specs.Lines.{longest}
 use Rattle.calls.specs.Runs.{Ran}
-use Rattle.calls.specs.declared.Kept.{Kept}
+use Rattle.library_calls.specs.declared.Kept.{Kept}
 use Rattle.calls.proofs.Running.{begun, stepped, standing}
 use borrow.Author.Needs.{needs}
 use Rattle.calls.proofs.run.Statement.{statement}

@@ -2,13 +2,14 @@ use native.Mathlib.Omega.{arith}
 use lib.ListN.{length-take}
 use borrow.Author.Needs.{needs}
 use Rattle.text.proofs.Printing.{laid, laid-none}
-use Rattle.calls.proofs.Turning.{told, step-line, step-none, as-told, step-told}
+use Rattle.call_lines.proofs.Turning.{told, as-told}
+use Rattle.calls.proofs.Stepping.{step-line, step-none, step-told}
 use borrow.Author.Needs.{needs}
 use Rattle.calls.proofs.take_step.Statement.{statement}
 use Rattle.calls.proofs.take_step.Tie as tie
 use Rattle.calls.proofs.take_step.Reads as reads
 use Rattle.calls.proofs.take_step.Lts as lts
-use Rattle.calls.proofs.answer_line.Reads as answer-line-reads
+use Rattle.call_lines.proofs.answer_line.Reads as answer-line-reads
 use Rattle.calls.proofs.is_line.Reads as is-line-reads
 use Rattle.line_program.proofs.next_line.Reads as next-line-reads
 use Rattle.line_program.proofs.print.Reads as print-reads

@@ -1,13 +1,13 @@
 use borrow.Author.Needs.{needs}
 use Rattle.text.proofs.Printing.{laid}
-use Rattle.calls.proofs.Turning.{told, whole-line, bad-line, as-told}
+use Rattle.call_lines.proofs.Turning.{told, whole-line, bad-line, as-told}
 use borrow.Author.Needs.{needs}
-use Rattle.calls.proofs.answer_line.Statement.{statement}
-use Rattle.calls.proofs.answer_line.Tie as tie
-use Rattle.calls.proofs.answer_line.Reads as reads
-use Rattle.calls.proofs.answer_line.Lts as lts
-use Rattle.calls.proofs.answer.Reads as answer-reads
-use Rattle.calls.proofs.is_whole.Reads as is-whole-reads
+use Rattle.call_lines.proofs.answer_line.Statement.{statement}
+use Rattle.call_lines.proofs.answer_line.Tie as tie
+use Rattle.call_lines.proofs.answer_line.Reads as reads
+use Rattle.call_lines.proofs.answer_line.Lts as lts
+use Rattle.call_lines.proofs.answer.Reads as answer-reads
+use Rattle.call_lines.proofs.is_whole.Reads as is-whole-reads
 use Rattle.text.proofs.put_text.Reads as put-text-reads
 
 -- src/main.rt:107:8

@@ -1,9 +1,9 @@
 use borrow.Author.Needs.{needs}
 use borrow.Author.Needs.{needs}
-use Rattle.calls.proofs.is_whole.Statement.{statement}
-use Rattle.calls.proofs.is_whole.Tie as tie
-use Rattle.calls.proofs.is_whole.Reads as reads
-use Rattle.calls.proofs.is_whole.Lts as lts
+use Rattle.call_lines.proofs.is_whole.Statement.{statement}
+use Rattle.call_lines.proofs.is_whole.Tie as tie
+use Rattle.call_lines.proofs.is_whole.Reads as reads
+use Rattle.call_lines.proofs.is_whole.Lts as lts
 
 -- src/main.rt:89:9
 returns : tie.Need-returns
