@@ -12,6 +12,7 @@ ghost use Rattle.forms.specs.Forms.{kindOf, isLiteral, choiceLength, beh
 ghost use Rattle.text.specs.Hexadecimal.{bytesText};
 ghost use Rattle.forms.specs.Texts.{Value, wordAt, maybeText, pairText, valueText, text, Fits, isForm, width, valueIn, valuesIn, part, valuesOf};
 ghost use Rattle.forms.specs.Tables.{allDiffer, ShareNoLine};
+ghost use Rattle.forms.specs.Room.{roomOf, Kinds, AllAtMost};
 
 // What a byte of a form stands for: itself, or a value.
 pub enum Kind {
@@ -442,4 +443,9 @@ pub fn form_round_trip()
 // Forms that differ at a byte that stands for itself, behind bytes that do so and are the same, share no line.
 pub fn different_forms_share_no_line()
     ensures { λ r. ⌜ ((forms : List (List ℕ)) → allDiffer forms ≡ true → ShareNoLine forms) ⌝ }
+{}
+
+// The text of a form's values is no longer than its own bytes and those that each value may take.
+pub fn texts_are_short()
+    ensures { λ r. ⌜ ((most : ℕ) (form : List ℕ) (vs : List Value) → Kinds form vs → AllAtMost most vs → length (text form vs) ≤ roomOf most form) ⌝ }
 {}

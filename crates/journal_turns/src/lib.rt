@@ -71,12 +71,12 @@ fn zeros() -> Bytes
 }
 
 // Few lines are longer than this. The bytes of the others need less room, and to clear the room for any line takes as long as all else.
-const SHORT: usize = 4096;
+const SHORT: usize = 1024;
 
 type FewBytes = [u8; SHORT / 2];
 
 fn few_zeros() -> FewBytes
-    ensures { λ r. ⌜ r ≡ replicate 2048 0 ⌝ }
+    ensures { λ r. ⌜ r ≡ replicate 512 0 ⌝ }
 {
     [0u8; SHORT / 2]
 }
