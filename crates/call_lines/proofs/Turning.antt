@@ -1,19 +1,17 @@
 -- What is made of a line is what the definitions say. Assumes nothing.
-use mathlib.Core.Path.{_≡_, refl, sym, ap, _∙_}
-use mathlib.Core.List.{List, []}
+use mathlib.Core.Path.{_≡_, refl}
+use mathlib.Core.List.{List}
 use mathlib.Core.Bool.{Bool, true, false}
-use Prim.Native.Nat.{ℕ, _≤_, _<_}
-use lib.ListN.{length, take}
-use lib.Seq.{sets}
-use Rattle.prelude.specs.Choice.{pick}
+use Prim.Native.Nat.{ℕ}
+use lib.ListN.{length}
 use Rattle.text.specs.Words.{ascii}
 use Rattle.text.specs.Printed.{printed, behind}
-use Rattle.text.proofs.Printing.{Laid, parts, laid-none}
+use Rattle.text.proofs.Printing.{Laid, parts}
 use Rattle.ledger.specs.Ledger.{tablesOf}
-use Rattle.library_calls.specs.Lines as library
 use Rattle.ledger_calls.specs.Replies.{replyText, wordsBy}
 use Rattle.call_lines.specs.Turns.{Turn, turn, turnOf, isWhole, lineTurn}
 use Rattle.library_calls.specs.declared.Kept.{Kept}
+use Rattle.library_calls.specs.Lines as library
 
 -- a contract's four clauses, from the turn that was made
 pub told : (t : Turn) {u : Turn} {o x : List ℕ} {q : ℕ} → t ≡ u → Laid o 0 (t .text) x q

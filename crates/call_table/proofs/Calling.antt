@@ -1,12 +1,12 @@
 -- A line's call, its bytes and its answer, as the definitions say. Assumes nothing.
 use mathlib.Core.Path.{_≡_, refl, sym, ap, _∙_}
-use mathlib.Core.List.{List, [], _∷_, _++_}
+use mathlib.Core.List.{List, [], _++_}
 use mathlib.Core.Bool.{Bool, true, false}
-use Prim.Native.Nat.{ℕ, zero, suc, _+_, _-_, _<_, _≤_, min}
+use Prim.Native.Nat.{ℕ, suc, _+_, _-_, _<_, _≤_, min}
 use native.Mathlib.Numerals.{add-one}
 use native.Mathlib.Omega.{arith}
 use lib.Dec.{leb}
-use lib.ListN.{length, take, drop, replicate, length-take, length-drop, length-replicate}
+use lib.ListN.{length, take, drop, length-take, length-drop, length-replicate}
 use lib.Seq.{length-sets}
 use borrow.Author.Tests.{leb-true, le-leb, lt-leb}
 use Rattle.prelude.specs.Choice.{pick}
@@ -19,7 +19,7 @@ use Rattle.lines.specs.Lines.{longest}
 use Rattle.forms.specs.Forms.{Reading, Good, Bad, readForm, isRead, StoredAs, Stored}
 use Rattle.forms.specs.Texts.{text, valuesIn, part}
 use Rattle.forms.proofs.Print.{part-none, part-cut}
-use Rattle.call_table.specs.Tables.{partFrom, partText, rowAt, rowText, fieldOf, noWords, triedBy, wordsBy, noCall, callBy, callFrom, callOf, blank, bytesIn, decoded, saidBy, saidText, answerText}
+use Rattle.call_table.specs.Tables.{partFrom, partText, rowAt, noWords, triedBy, wordsBy, noCall, callBy, callFrom, callOf, blank, bytesIn, decoded, saidBy, saidText, answerText}
 use Rattle.call_table.specs.declared.Part.{Part}
 use Rattle.call_table.specs.declared.Tried.{Tried}
 use Rattle.call_table.specs.declared.Call.{Call}
@@ -27,7 +27,6 @@ use Rattle.call_table.specs.declared.Bytes.{Bytes}
 use Rattle.call_table.specs.declared.Said.{Said}
 
 -- ---- a row
-
 tried-by : (r : Reading (List ℕ)) (x : List ℕ) → true ≡ isRead r → StoredAs r noWords x → record { good = true; words = x } ≡ triedBy r
 tried-by (Good ws) x e s = rw s
 tried-by Bad x e s = let z : _≡_ {A = ℕ} 0 1 = cc in absurd (omega arith)

@@ -1,18 +1,14 @@
 -- The parts of a text, one at a time; bytes where there is room for them. Assumes nothing.
-use mathlib.Core.Path.{_≡_, refl, sym, ap, _∙_}
-use mathlib.Core.List.{List, []}
-use mathlib.Core.Bool.{Bool, true, false}
-use Prim.Native.Nat.{ℕ, zero, suc, _+_, _-_, _<_, _≤_}
+use mathlib.Core.Path.{_≡_, sym, ap, _∙_}
+use mathlib.Core.List.{List}
+use Prim.Native.Nat.{ℕ, suc, _+_, _-_, _<_, _≤_}
 use native.Mathlib.Omega.{arith}
-use lib.Dec.{leb}
 use lib.ListN.{length, take, drop, length-drop}
 use borrow.Author.Tests.{le-leb, lt-leb}
-use Rattle.prelude.specs.Choice.{pick}
 use Rattle.text.specs.Words.{lengthBefore}
 use Rattle.text.proofs.Reading.{before-within}
 use Rattle.text.proofs.Printing.{rest-of}
 use Rattle.call_table.specs.Tables.{partFrom}
-use Rattle.call_table.specs.declared.Part.{Part}
 
 module _ (separator : ℕ) (s : List ℕ) (at : ℕ) {n : ℕ} (h : at ≤ length s) (e : n ≡ lengthBefore separator (take (length s - at) (drop at s))) where
   counted : n ≡ lengthBefore separator (drop at s)

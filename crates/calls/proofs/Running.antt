@@ -1,22 +1,22 @@
 -- Step by step: each reads on where the one before it stopped. Assumes nothing.
-use mathlib.Core.Path.{_≡_, refl, sym, ap, _∙_}
+use mathlib.Core.Path.{_≡_, refl, ap, _∙_}
 use mathlib.Core.List.{List, [], _∷_, _++_, append-assoc}
 use mathlib.Core.Bool.{Bool, true, false}
 use Prim.Native.Nat.{ℕ, _≤_, _<_}
 use native.Mathlib.Omega.{arith}
 use lib.Dec.{leb, ltb}
-use lib.ListN.{length, take, drop, length-take}
+use lib.ListN.{length, take, length-take}
 use lib.Seq.{length-sets}
 use borrow.Author.Tests.{leb-true, leb-false, lt-ltb, le-ltb}
-use Rattle.prelude.specs.Choice.{pick, both, either, no}
+use Rattle.prelude.specs.Choice.{both}
 use Rattle.text.specs.Words.{ascii}
 use Rattle.text.specs.Printed.{printed, behind}
 use Rattle.text.proofs.Printing.{fits, fits-place, full-place}
 use Rattle.lines.specs.Lines.{longest}
 use Rattle.line_program.specs.declared.Reading.{Reading}
-use Rattle.line_program.specs.Reads.{left, feed, NextLine}
-use Rattle.call_lines.specs.Turns.{Turn, turn, turnOf, lineTurn}
-use Rattle.calls.specs.Steps.{isLine, stepOf}
+use Rattle.line_program.specs.Reads.{left, NextLine}
+use Rattle.call_lines.specs.Turns.{turn, lineTurn}
+use Rattle.calls.specs.Steps.{stepOf}
 use Rattle.calls.specs.Runs.{Got, gotTurn, bytesOf, taken, Ran}
 use Rattle.library_calls.specs.declared.Kept.{Kept}
 use Rattle.calls.specs.declared.Step.{Step}

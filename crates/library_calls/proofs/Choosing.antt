@@ -1,8 +1,8 @@
 -- What is said of each call of `address` and `candidates`. Assumes nothing.
-use mathlib.Core.Path.{_≡_, ap}
+use mathlib.Core.Path.{_≡_}
 use mathlib.Core.List.{List, [], _∷_}
 use Prim.Native.Nat.{ℕ}
-use lib.ListN.{length, take, getD}
+use lib.ListN.{take, getD}
 use lib.Seq.{sets}
 use Rattle.text.specs.Printed.{printed}
 use Rattle.refusal.specs.Number.{numberOf}

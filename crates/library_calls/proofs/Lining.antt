@@ -1,5 +1,5 @@
 -- A line by the tables, one after the other. Assumes nothing.
-use mathlib.Core.Path.{_≡_, refl, sym, ap, _∙_}
+use mathlib.Core.Path.{_≡_, refl, _∙_}
 use mathlib.Core.List.{List, []}
 use mathlib.Core.Bool.{Bool, true, false}
 use Prim.Native.Nat.{ℕ}
@@ -9,13 +9,13 @@ use Rattle.text.specs.Printed.{printed, behind}
 use Rattle.text.proofs.Printing.{Laid, parts}
 use Rattle.schedule.specs.declared.BlastSchedule.{BlastSchedule}
 use Rattle.call_table.specs.Tables.{answerText}
+use Rattle.library_calls.specs.Lines.{Turn, turn, keeping, among, turnOf}
+use Rattle.library_calls.specs.declared.Kept.{Kept}
+use Rattle.library_calls.specs.declared.budgets.Kept.{Kept as Budget}
 use Rattle.library_calls.specs.Messages as message
 use Rattle.library_calls.specs.Choices as choice
 use Rattle.library_calls.specs.Budgets as budget
 use Rattle.library_calls.specs.Schedules as schedule
-use Rattle.library_calls.specs.Lines.{Turn, turn, keeping, among, turnOf}
-use Rattle.library_calls.specs.declared.Kept.{Kept}
-use Rattle.library_calls.specs.declared.budgets.Kept.{Kept as Budget}
 
 -- a contract's four clauses, from the turn that was made
 pub told : (t : Turn) {u : Turn} {o x : List ℕ} {q : ℕ} → t ≡ u → Laid o 0 (t .text) x q

@@ -3,35 +3,24 @@ use borrow.Author.Needs.{needs}
 use Rattle.text.proofs.Printing.{laid}
 use Rattle.library_calls.proofs.Lining.{unprinted, over, unanswered}
 use Rattle.call_lines.proofs.Turning.{told, by-library, by-ledger}
-use borrow.Author.Needs.{needs}
 use Rattle.call_lines.proofs.answer.Statement.{statement}
 use Rattle.call_lines.proofs.answer.Tie as tie
-use Rattle.call_lines.proofs.answer.Reads as reads
-use Rattle.call_lines.proofs.answer.Lts as lts
-use Rattle.ledger_calls.proofs.answer.Reads as answer-reads
-use Rattle.library_calls.proofs.answer.Reads as answer-reads′
 
--- src/main.rt:29:9
 answer-requires : tie.Need-answer-requires
 answer-requires c κs = search needs
 
--- src/main.rt:32:9
 same-length : tie.Need-same-length
 same-length c = search needs
 
--- src/main.rt:32:9
 returns : tie.Need-returns
 returns c = told _ (by-library (c .before .before .before .before .before .before .before .before .args .kept) _ _ (c .before .before .before .before .answer .ensures .0) (c .before .if1 .taken) (c .before .before .before .before .answer .ensures .1 .0)) (laid _ _ _ (c .before .before .before .before .answer .ensures .1 .1))
 
--- src/main.rt:37:9
 answer-requires-2 : tie.Need-answer-requires-2
 answer-requires-2 c κs = search needs
 
--- src/main.rt:23:1
 same-length-2 : tie.Need-same-length-2
 same-length-2 c = search needs
 
--- src/main.rt:23:1
 returns-2 : tie.Need-returns-2
 returns-2 c =
     let x = unprinted _ (unanswered (c .before .before .before .before .before .before .before .before .before .before .before .before .args .kept) _ (sym (c .before .before .before .before .before .before .before .before .answer .ensures .0) ∙ c .before .before .before .before .before .if1 .left)) (c .before .before .before .before .before .before .before .before .answer .ensures .1 .1 .0) in

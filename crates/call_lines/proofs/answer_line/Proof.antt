@@ -1,44 +1,30 @@
 use borrow.Author.Needs.{needs}
 use Rattle.text.proofs.Printing.{laid}
 use Rattle.call_lines.proofs.Turning.{told, whole-line, bad-line, as-told}
-use borrow.Author.Needs.{needs}
 use Rattle.call_lines.proofs.answer_line.Statement.{statement}
 use Rattle.call_lines.proofs.answer_line.Tie as tie
-use Rattle.call_lines.proofs.answer_line.Reads as reads
-use Rattle.call_lines.proofs.answer_line.Lts as lts
-use Rattle.call_lines.proofs.answer.Reads as answer-reads
-use Rattle.call_lines.proofs.is_whole.Reads as is-whole-reads
-use Rattle.text.proofs.put_text.Reads as put-text-reads
 
--- src/main.rt:107:8
 is-whole-requires : tie.Need-is-whole-requires
 is-whole-requires c κs = search needs
 
--- src/main.rt:108:9
 answer-requires : tie.Need-answer-requires
 answer-requires c κs = search needs
 
--- src/main.rt:108:9
 same-length : tie.Need-same-length
 same-length c = search needs
 
--- src/main.rt:108:9
 returns : tie.Need-returns
 returns c = as-told _ (whole-line (c .before .before .before .before .before .before .before .before .before .args .kept) _ _ _ (c .before .before .before .before .before .before .is-whole .ensures) (c .before .before .before .before .before .if1 .taken)) (c .before .before .answer .ensures)
 
--- src/main.rt:110:30
 slice-aggregate-put-text : tie.Need-slice-aggregate-put-text
 slice-aggregate-put-text c = search needs
 
--- src/main.rt:110:9
 put-text-requires : tie.Need-put-text-requires
 put-text-requires c κs = search needs
 
--- src/main.rt:95:1
 same-length-2 : tie.Need-same-length-2
 same-length-2 c = search needs
 
--- src/main.rt:95:1
 returns-2 : tie.Need-returns-2
 returns-2 c = told _ (bad-line (c .before .before .before .before .before .before .before .before .before .args .kept) _ _ _ (c .before .before .before .before .before .before .is-whole .ensures) (c .before .before .before .before .before .if1 .left)) (laid _ _ _ (c .before .before .put-text .ensures))
 

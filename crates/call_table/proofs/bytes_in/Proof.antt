@@ -1,55 +1,38 @@
 use borrow.Author.Needs.{needs}
 use Rattle.call_table.proofs.Calling.{bytes-none, bytes-many, bytes-read}
-use borrow.Author.Needs.{needs}
 use Rattle.call_table.proofs.bytes_in.Statement.{statement}
 use Rattle.call_table.proofs.bytes_in.Tie as tie
-use Rattle.call_table.proofs.bytes_in.Reads as reads
-use Rattle.call_table.proofs.bytes_in.Lts as lts
-use Rattle.call_table.proofs.blank.Reads as blank-reads
-use Rattle.text.proofs.least.Reads as least-reads
-use Rattle.text.proofs.read_hexadecimal.Reads as read-hexadecimal-reads
 
--- src/lib.rt:130:21
 blank-requires : tie.Need-blank-requires
 blank-requires c κs = search needs
 
--- src/lib.rt:132:9
 least-requires : tie.Need-least-requires
 least-requires c κs = search needs
 
--- src/lib.rt:134:9
 returns : tie.Need-returns
 returns c = bytes-none _ _ _ (c .before .least .ensures) (c .before .before .blank .ensures) (c .if1 .taken)
 
--- src/lib.rt:139:25
 sub-if2 : tie.Need-sub-if2
 sub-if2 c = search needs
 
--- src/lib.rt:140:9
 returns-2 : tie.Need-returns-2
 returns-2 c = bytes-many _ _ _ (c .before .before .least .ensures) (c .before .before .before .blank .ensures) (c .if2 .taken)
 
--- src/lib.rt:145:36
 sub-read-hexadecimal : tie.Need-sub-read-hexadecimal
 sub-read-hexadecimal c = search needs
 
--- src/lib.rt:145:36
 part-read-hexadecimal-start : tie.Need-part-read-hexadecimal-start
 part-read-hexadecimal-start c = search needs
 
--- src/lib.rt:145:36
 part-read-hexadecimal-end : tie.Need-part-read-hexadecimal-end
 part-read-hexadecimal-end c = search needs
 
--- src/lib.rt:145:49
 slice-aggregate-read-hexadecimal : tie.Need-slice-aggregate-read-hexadecimal
 slice-aggregate-read-hexadecimal c = search needs
 
--- src/lib.rt:145:9
 read-hexadecimal-requires : tie.Need-read-hexadecimal-requires
 read-hexadecimal-requires c κs = search needs
 
--- src/lib.rt:127:1
 returns-3 : tie.Need-returns-3
 returns-3 c = bytes-read _ _ _ (c .before .before .before .before .before .before .least .ensures) (c .before .before .before .before .before .before .before .blank .ensures) (c .before .before .before .before .if2 .left) (c .before .read-hexadecimal .ensures)
 

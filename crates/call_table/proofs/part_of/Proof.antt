@@ -8,9 +8,6 @@ use Rattle.call_table.proofs.Parts.{end-within, part-here, part-missing
 use borrow.Author.Needs.{needs}
 use Rattle.call_table.proofs.part_of.Statement.{statement}
 use Rattle.call_table.proofs.part_of.Tie as tie
-use Rattle.call_table.proofs.part_of.Reads as reads
-use Rattle.call_table.proofs.part_of.Lts as lts
-use Rattle.text.proofs.length_before.Reads as length-before-reads
 
 abbrev Inv-loop : tie.InvT-loop
 Inv-loop s separator k at₀ left₀ at left = (at ≤ length s) × (partFrom separator s 0 k ≡ partFrom separator s at left)
@@ -18,51 +15,39 @@ Inv-loop s separator k at₀ left₀ at left = (at ≤ length s) × (partFrom se
 abbrev μ-loop : tie.MeasureT-loop
 μ-loop s separator k at₀ left₀ at left = length s - at
 
--- src/lib.rt:24:5
 loop-holds : tie.Need-loop-holds Inv-loop μ-loop
 loop-holds c = (omega arith, refl)
 
--- src/lib.rt:25:44
 sub-length-before : tie.Need-sub-length-before Inv-loop μ-loop
 sub-length-before c = search needs
 
--- src/lib.rt:25:44
 part-length-before-start : tie.Need-part-length-before-start Inv-loop μ-loop
 part-length-before-start c = search needs
 
--- src/lib.rt:25:44
 part-length-before-end : tie.Need-part-length-before-end Inv-loop μ-loop
 part-length-before-end c = search needs
 
--- src/lib.rt:25:24
 length-before-requires : tie.Need-length-before-requires Inv-loop μ-loop
 length-before-requires c κs = search needs
 
--- src/lib.rt:25:19
 add-end : tie.Need-add-end Inv-loop μ-loop
 add-end c = omega (arith, end-within (c .before .before .before .before .args .separator) (now (c .before .before .before .before .args .s)) (c .before .before .loop .at) (c .before .before .loop .inv .0) (c .length-before .ensures))
 
--- src/lib.rt:27:13
 returns : tie.Need-returns Inv-loop μ-loop
 returns c = (part-here _ _ _ (c .before .before .before .loop .inv .0) (c .before .length-before .ensures) _ _ (c .before .before .before .loop .inv .1) (c .if1 .taken), (omega arith, end-within (c .before .before .before .before .before .args .separator) (now (c .before .before .before .before .before .args .s)) (c .before .before .before .loop .at) (c .before .before .before .loop .inv .0) (c .before .length-before .ensures)))
 
--- src/lib.rt:33:13
 returns-2 : tie.Need-returns-2 Inv-loop μ-loop
 returns-2 c = (part-missing _ _ _ (c .before .before .before .before .loop .inv .0) (c .before .before .length-before .ensures) _ _ (c .before .before .before .before .loop .inv .1) (c .before .if1 .left) (c .if2 .taken), (omega arith, omega arith))
 
--- src/lib.rt:38:14
 add-at : tie.Need-add-at Inv-loop μ-loop
 add-at c = search needs
 
--- src/lib.rt:39:9
 sub-left : tie.Need-sub-left Inv-loop μ-loop
 sub-left c = omega (arith, c .before .if1 .left)
 
--- src/lib.rt:24:5
 loop-less : tie.Need-loop-less Inv-loop μ-loop
 loop-less c = omega arith
 
--- src/lib.rt:24:5
 loop-again : tie.Need-loop-again Inv-loop μ-loop
 loop-again c = (omega arith, part-next _ _ _ (c .before .before .before .before .loop .inv .0) (c .before .before .length-before .ensures) _ _ (c .before .before .before .before .loop .inv .1) (c .before .if1 .left) (c .if2 .left))
 

@@ -2,26 +2,18 @@ use mathlib.Core.Path.{sym}
 use borrow.Author.Needs.{needs}
 use Rattle.text.proofs.Printing.{laid, parts}
 use Rattle.call_table.proofs.Calling.{answer-found, answer-none}
-use borrow.Author.Needs.{needs}
 use Rattle.call_table.proofs.put_answer.Statement.{statement}
 use Rattle.call_table.proofs.put_answer.Tie as tie
-use Rattle.call_table.proofs.put_answer.Reads as reads
-use Rattle.call_table.proofs.put_answer.Lts as lts
-use Rattle.call_table.proofs.put_said.Reads as put-said-reads
 
--- src/lib.rt:224:13
 put-said-requires : tie.Need-put-said-requires
 put-said-requires c κs = search needs
 
--- src/lib.rt:225:9
 same-length : tie.Need-same-length
 same-length c = search needs
 
--- src/lib.rt:225:9
 returns : tie.Need-returns
 returns c = (sym (c .before .before .before .before .if1 .taken), parts (answer-found _ _ _ (c .before .before .before .before .if1 .taken) (laid _ _ _ (c .before .before .put-said .ensures))))
 
--- src/lib.rt:218:1
 returns-2 : tie.Need-returns-2
 returns-2 c = (sym (c .if1 .left), parts (answer-none _ _ _ (c .if1 .left)))
 

@@ -2,39 +2,27 @@ use borrow.Author.Needs.{needs}
 use Rattle.text.proofs.Printing.{laid, parts}
 use Rattle.line_program.proofs.Answers.{renamed}
 use Rattle.call_table.proofs.Calling.{said-text}
-use borrow.Author.Needs.{needs}
 use Rattle.call_table.proofs.put_said.Statement.{statement}
 use Rattle.call_table.proofs.put_said.Tie as tie
-use Rattle.call_table.proofs.put_said.Reads as reads
-use Rattle.call_table.proofs.put_said.Lts as lts
-use Rattle.call_table.proofs.part_of.Reads as part-of-reads
-use Rattle.call_table.proofs.put_field.Reads as put-field-reads
 
--- src/lib.rt:205:9
 part-of-requires : tie.Need-part-of-requires
 part-of-requires c κs = search needs
 
--- src/lib.rt:208:15
 sub-put-field : tie.Need-sub-put-field
 sub-put-field c = search needs
 
--- src/lib.rt:208:15
 part-put-field-start : tie.Need-part-put-field-start
 part-put-field-start c = search needs
 
--- src/lib.rt:208:15
 part-put-field-end : tie.Need-part-put-field-end
 part-put-field-end c = search needs
 
--- src/lib.rt:208:5
 put-field-requires : tie.Need-put-field-requires
 put-field-requires c κs = search needs
 
--- src/lib.rt:201:1
 same-length : tie.Need-same-length
 same-length c = search needs
 
--- src/lib.rt:201:1
 returns : tie.Need-returns
 returns c = parts (renamed (said-text _ _ _ (c .before .before .before .before .before .part-of .ensures .0)) (laid _ _ _ (c .before .before .put-field .ensures)))
 

@@ -1,19 +1,13 @@
 use borrow.Author.Needs.{needs}
-use borrow.Author.Needs.{needs}
 use Rattle.calls.proofs.is_line.Statement.{statement}
 use Rattle.calls.proofs.is_line.Tie as tie
-use Rattle.calls.proofs.is_line.Reads as reads
-use Rattle.calls.proofs.is_line.Lts as lts
 
--- src/main.rt:116:9
 returns : tie.Need-returns
 returns c = search needs
 
--- src/main.rt:119:9
 returns-2 : tie.Need-returns-2
 returns-2 c = search needs
 
--- src/main.rt:112:1
 returns-3 : tie.Need-returns-3
 returns-3 c = simp (c .if2 .left, c .before .if1 .left)
 

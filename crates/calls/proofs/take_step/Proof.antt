@@ -1,68 +1,48 @@
 use native.Mathlib.Omega.{arith}
 use lib.ListN.{length-take}
 use borrow.Author.Needs.{needs}
-use Rattle.text.proofs.Printing.{laid, laid-none}
+use Rattle.text.proofs.Printing.{laid-none}
 use Rattle.call_lines.proofs.Turning.{told, as-told}
 use Rattle.calls.proofs.Stepping.{step-line, step-none, step-told}
-use borrow.Author.Needs.{needs}
 use Rattle.calls.proofs.take_step.Statement.{statement}
 use Rattle.calls.proofs.take_step.Tie as tie
-use Rattle.calls.proofs.take_step.Reads as reads
-use Rattle.calls.proofs.take_step.Lts as lts
-use Rattle.call_lines.proofs.answer_line.Reads as answer-line-reads
-use Rattle.calls.proofs.is_line.Reads as is-line-reads
-use Rattle.line_program.proofs.next_line.Reads as next-line-reads
-use Rattle.line_program.proofs.print.Reads as print-reads
 
--- src/main.rt:148:9
 next-line-requires : tie.Need-next-line-requires
 next-line-requires c κs = search needs
 
--- src/main.rt:149:8
 is-line-requires : tie.Need-is-line-requires
 is-line-requires c κs = search needs
 
--- src/main.rt:151:43
 slice-reshare-prefix-answer-line : tie.Need-slice-reshare-prefix-answer-line
 slice-reshare-prefix-answer-line c = search needs
 
--- src/main.rt:151:43
 slice-aggregate-answer-line : tie.Need-slice-aggregate-answer-line
 slice-aggregate-answer-line c = simp length-take (omega (arith, c .before .before .before .before .before .before .before .before .next-line .ensures .0))
 
--- src/main.rt:151:13
 answer-line-requires : tie.Need-answer-line-requires
 answer-line-requires c κs = search needs
 
--- src/main.rt:153:13
 print-requires : tie.Need-print-requires
 print-requires c κs = search needs
 
--- src/main.rt:154:9
 same-length : tie.Need-same-length
 same-length c = search needs
 
--- src/main.rt:154:9
 same-length-2 : tie.Need-same-length-2
 same-length-2 c = search needs
 
--- src/main.rt:154:9
 same-length-3 : tie.Need-same-length-3
 same-length-3 c = search needs
 
--- src/main.rt:154:9
 returns : tie.Need-returns
 returns c = step-told (as-told _ (step-line (c .before .before .before .before .before .before .before .before .before .before .before .before .before .before .before .before .before .before .before .before .before .args .kept) _ _ (c .before .before .before .before .before .before .before .before .before .before .before .before .before .before .before .next-line .result) (c .before .before .before .before .before .before .before .before .before .before .is-line .ensures) (c .before .before .before .before .before .before .before .before .before .if1 .taken)) (c .before .before .before .before .before .answer-line .ensures)) (c .before .before .before .before .before .before .before .before .before .before .before .before .before .before .before .next-line .ensures .1 .1)
 
--- src/main.rt:133:1
 same-length-4 : tie.Need-same-length-4
 same-length-4 c = search needs
 
--- src/main.rt:133:1
 same-length-5 : tie.Need-same-length-5
 same-length-5 c = search needs
 
--- src/main.rt:133:1
 returns-2 : tie.Need-returns-2
 returns-2 c = step-told (told _ (step-none (c .before .before .before .before .before .before .before .before .before .before .before .before .args .kept) _ _ (c .before .before .before .before .before .before .next-line .result) (c .before .is-line .ensures) (c .if1 .left)) (laid-none _ 0)) (c .before .before .before .before .before .before .next-line .ensures .1 .1)
 

@@ -2,51 +2,35 @@ use mathlib.Core.Path.{sym, _∙_}
 use borrow.Author.Needs.{needs}
 use Rattle.text.proofs.Printing.{laid}
 use Rattle.library_calls.proofs.Lining.{told, unprinted, over, no-message, no-choice, no-budget, by-message, by-choice, by-budget, by-schedule}
-use borrow.Author.Needs.{needs}
 use Rattle.library_calls.proofs.answer.Statement.{statement}
 use Rattle.library_calls.proofs.answer.Tie as tie
-use Rattle.library_calls.proofs.answer.Reads as reads
-use Rattle.library_calls.proofs.answer.Lts as lts
-use Rattle.library_calls.proofs.budgets.answer.Reads as budgets-answer-reads
-use Rattle.library_calls.proofs.choices.answer.Reads as choices-answer-reads
-use Rattle.library_calls.proofs.messages.answer.Reads as messages-answer-reads
-use Rattle.library_calls.proofs.schedules.answer.Reads as schedules-answer-reads
 
--- src/lib.rt:43:9
 answer-requires : tie.Need-answer-requires
 answer-requires c κs = search needs
 
--- src/lib.rt:45:9
 same-length : tie.Need-same-length
 same-length c = search needs
 
--- src/lib.rt:45:9
 returns : tie.Need-returns
 returns c = told _ (by-message (c .before .before .before .before .before .before .before .args .kept) _ (sym (c .before .before .before .answer .ensures .0) ∙ c .if1 .taken)) (laid _ _ _ (c .before .before .before .answer .ensures .1))
 
--- src/lib.rt:51:9
 answer-requires-2 : tie.Need-answer-requires-2
 answer-requires-2 c κs = search needs
 
--- src/lib.rt:53:9
 same-length-2 : tie.Need-same-length-2
 same-length-2 c = search needs
 
--- src/lib.rt:53:9
 returns-2 : tie.Need-returns-2
 returns-2 c =
     let m = sym (c .before .before .before .before .before .before .before .before .answer .ensures .0) ∙ c .before .before .before .before .before .if1 .left in
     told _ (by-choice (c .before .before .before .before .before .before .before .before .before .before .before .before .args .kept) _ m (sym (c .before .before .before .answer2 .ensures .0) ∙ c .if2 .taken)) (over (unprinted _ (no-message _ m) (c .before .before .before .before .before .before .before .before .answer .ensures .1 .0)) (laid _ _ _ (c .before .before .before .answer2 .ensures .1)))
 
--- src/lib.rt:59:9
 answer-requires-3 : tie.Need-answer-requires-3
 answer-requires-3 c κs = search needs
 
--- src/lib.rt:62:9
 same-length-3 : tie.Need-same-length-3
 same-length-3 c = search needs
 
--- src/lib.rt:62:9
 returns-3 : tie.Need-returns-3
 returns-3 c =
     let m = sym (c .before .before .before .before .before .before .before .before .before .before .before .before .before .answer .ensures .0) ∙ c .before .before .before .before .before .before .before .before .before .before .if1 .left in
@@ -54,15 +38,12 @@ returns-3 c =
     let x = unprinted _ (no-choice _ d) (c .before .before .before .before .before .before .before .before .answer2 .ensures .1 .0) ∙ unprinted _ (no-message _ m) (c .before .before .before .before .before .before .before .before .before .before .before .before .before .answer .ensures .1 .0) in
     told _ (by-budget (c .before .before .before .before .before .before .before .before .before .before .before .before .before .before .before .before .before .args .kept) _ m d (sym (c .before .before .before .answer3 .ensures .0) ∙ c .if3 .taken) (c .before .before .before .answer3 .ensures .1 .0)) (over x (laid _ _ _ (c .before .before .before .answer3 .ensures .1 .1)))
 
--- src/lib.rt:71:9
 answer-requires-4 : tie.Need-answer-requires-4
 answer-requires-4 c κs = search needs
 
--- src/lib.rt:35:1
 same-length-4 : tie.Need-same-length-4
 same-length-4 c = search needs
 
--- src/lib.rt:35:1
 returns-4 : tie.Need-returns-4
 returns-4 c =
     let m = sym (c .before .before .before .before .before .before .before .before .before .before .before .before .before .before .before .before .before .answer .ensures .0) ∙ c .before .before .before .before .before .before .before .before .before .before .before .before .before .before .if1 .left in

@@ -1,50 +1,35 @@
-use mathlib.Core.Path.{sym, refl}
-use borrow.Author.Tests.{le-leb, lt-leb, lt-ltb, le-ltb, eq-eqb, ne-eqb}
 use mathlib.Core.Path.{sym}
 use borrow.Author.Needs.{needs}
 use Rattle.library_calls.proofs.budgets.due_said.Statement.{statement}
 use Rattle.library_calls.proofs.budgets.due_said.Tie as tie
-use Rattle.library_calls.proofs.budgets.due_said.Reads as reads
-use Rattle.library_calls.proofs.budgets.due_said.Lts as lts
-use Rattle.call_table.proofs.say.Reads as say-reads
 
--- src/budgets.rt:69:49
 enum-told : tie.Need-enum-told
 enum-told c = search needs
 
--- src/budgets.rt:69:30
 say-requires : tie.Need-say-requires
 say-requires c κs = search needs
 
--- src/budgets.rt:70:40
 enum-known-stop : tie.Need-enum-known-stop
 enum-known-stop c = search needs
 
--- src/budgets.rt:71:33
 cast-t7 : tie.Need-cast-t7
 cast-t7 c = search needs
 
--- src/budgets.rt:71:13
 say-requires-2 : tie.Need-say-requires-2
 say-requires-2 c κs = search needs
 
--- src/budgets.rt:73:39
 enum-known-stop-2 : tie.Need-enum-known-stop-2
 enum-known-stop-2 c = search needs
 
--- src/budgets.rt:74:13
 say-requires-3 : tie.Need-say-requires-3
 say-requires-3 c κs = search needs
 
--- src/budgets.rt:65:1
 returns : tie.Need-returns
 returns c = simp (sym (c .say .ensures), c .before .enum-told .given .1)
 
--- src/budgets.rt:65:1
 returns-2 : tie.Need-returns-2
 returns-2 c = simp (sym (c .say2 .ensures), c .before .before .stop .given .1)
 
--- src/budgets.rt:65:1
 returns-3 : tie.Need-returns-3
 returns-3 c = simp (sym (c .say3 .ensures), c .before .before .stop2 .given .1)
 

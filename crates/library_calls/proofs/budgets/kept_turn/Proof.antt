@@ -1,35 +1,23 @@
-use mathlib.Core.Path.{sym, refl}
-use borrow.Author.Tests.{le-leb, lt-leb, lt-ltb, le-ltb, eq-eqb, ne-eqb}
 use mathlib.Core.Path.{sym}
 use borrow.Author.Needs.{needs}
 use Rattle.library_calls.proofs.budgets.kept_turn.Statement.{statement}
 use Rattle.library_calls.proofs.budgets.kept_turn.Tie as tie
-use Rattle.library_calls.proofs.budgets.kept_turn.Reads as reads
-use Rattle.library_calls.proofs.budgets.kept_turn.Lts as lts
-use Rattle.call_table.proofs.say.Reads as say-reads
-use Rattle.library_calls.proofs.budgets.armed.Reads as armed-reads
 
--- src/budgets.rt:102:19
 enum-told : tie.Need-enum-told
 enum-told c = search needs
 
--- src/budgets.rt:103:19
 say-requires : tie.Need-say-requires
 say-requires c κs = search needs
 
--- src/budgets.rt:105:21
 enum-known-kept : tie.Need-enum-known-kept
 enum-known-kept c = search needs
 
--- src/budgets.rt:105:27
 armed-requires : tie.Need-armed-requires
 armed-requires c κs = search needs
 
--- src/budgets.rt:97:1
 returns : tie.Need-returns
 returns c = simp (sym (c .say .ensures), c .before .enum-told .given .1)
 
--- src/budgets.rt:97:1
 returns-2 : tie.Need-returns-2
 returns-2 c = simp (sym (c .armed .ensures), c .before .before .kept .given .1)
 

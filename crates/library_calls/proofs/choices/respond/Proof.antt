@@ -2,101 +2,71 @@ use mathlib.Core.Path.{_∙_}
 use borrow.Author.Needs.{needs}
 use borrow.Author.Tests.{eq-eqb, ne-eqb}
 use Rattle.library_calls.specs.Choices.{choiceSaid}
-use borrow.Author.Needs.{needs}
 use Rattle.library_calls.proofs.choices.respond.Statement.{statement}
 use Rattle.library_calls.proofs.choices.respond.Tie as tie
-use Rattle.library_calls.proofs.choices.respond.Reads as reads
-use Rattle.library_calls.proofs.choices.respond.Lts as lts
-use Rattle.candidates.proofs.Limits.usual.Reads as Limits-usual-reads
-use Rattle.candidates.proofs.Terms.usual.Reads as Terms-usual-reads
-use Rattle.candidates.proofs.bound_punch_candidates.Reads as bound-punch-candidates-reads
-use Rattle.candidates.proofs.own_punch_candidates.Reads as own-punch-candidates-reads
-use Rattle.candidates.proofs.select_punch_candidates.Reads as select-punch-candidates-reads
-use Rattle.library_calls.proofs.choices.eligible.Reads as eligible-reads
-use Rattle.library_calls.proofs.choices.selection_said.Reads as selection-said-reads
 
--- src/choices.rt:54:9
 eligible-requires : tie.Need-eligible-requires
 eligible-requires c κs = search needs
 
--- src/choices.rt:54:9
 returns : tie.Need-returns
 unfolding choiceSaid
 returns c = c .eligible .ensures ∙ rw (eq-eqb _ _ (c .before .if1 .taken))
 
--- src/choices.rt:57:9
 eligible-requires-2 : tie.Need-eligible-requires-2
 eligible-requires-2 c κs = search needs
 
--- src/choices.rt:57:9
 returns-2 : tie.Need-returns-2
 unfolding choiceSaid
 returns-2 c = c .eligible2 .ensures ∙ rw (ne-eqb _ _ (c .before .before .if1 .left), eq-eqb _ _ (c .before .if2 .taken))
 
--- src/choices.rt:60:74
 usual-requires : tie.Need-usual-requires
 usual-requires c κs = search needs
 
--- src/choices.rt:60:31
 select-punch-candidates-requires : tie.Need-select-punch-candidates-requires
 select-punch-candidates-requires c κs = search needs
 
--- src/choices.rt:60:9
 selection-said-requires : tie.Need-selection-said-requires
 selection-said-requires c κs = search needs
 
--- src/choices.rt:60:9
 returns-3 : tie.Need-returns-3
 unfolding choiceSaid
 returns-3 c = c .selection-said .ensures ∙ rw (c .before .select-punch-candidates .ensures, c .before .before .usual .ensures, ne-eqb _ _ (c .before .before .before .before .before .if1 .left), ne-eqb _ _ (c .before .before .before .before .if2 .left), eq-eqb _ _ (c .before .before .before .if3 .taken))
 
--- src/choices.rt:63:74
 usual-requires-2 : tie.Need-usual-requires-2
 usual-requires-2 c κs = search needs
 
--- src/choices.rt:63:31
 select-punch-candidates-requires-2 : tie.Need-select-punch-candidates-requires-2
 select-punch-candidates-requires-2 c κs = search needs
 
--- src/choices.rt:63:9
 selection-said-requires-2 : tie.Need-selection-said-requires-2
 selection-said-requires-2 c κs = search needs
 
--- src/choices.rt:63:9
 returns-4 : tie.Need-returns-4
 unfolding choiceSaid
 returns-4 c = c .selection-said2 .ensures ∙ rw (c .before .select-punch-candidates2 .ensures, c .before .before .usual2 .ensures, ne-eqb _ _ (c .before .before .before .before .before .before .if1 .left), ne-eqb _ _ (c .before .before .before .before .before .if2 .left), ne-eqb _ _ (c .before .before .before .before .if3 .left), eq-eqb _ _ (c .before .before .before .if4 .taken))
 
--- src/choices.rt:66:71
 usual-requires-3 : tie.Need-usual-requires-3
 usual-requires-3 c κs = search needs
 
--- src/choices.rt:66:31
 own-punch-candidates-requires : tie.Need-own-punch-candidates-requires
 own-punch-candidates-requires c κs = search needs
 
--- src/choices.rt:66:9
 selection-said-requires-3 : tie.Need-selection-said-requires-3
 selection-said-requires-3 c κs = search needs
 
--- src/choices.rt:66:9
 returns-5 : tie.Need-returns-5
 unfolding choiceSaid
 returns-5 c = c .selection-said3 .ensures ∙ rw (c .before .own-punch-candidates .ensures, c .before .before .usual3 .ensures, ne-eqb _ _ (c .before .before .before .before .before .before .before .if1 .left), ne-eqb _ _ (c .before .before .before .before .before .before .if2 .left), ne-eqb _ _ (c .before .before .before .before .before .if3 .left), ne-eqb _ _ (c .before .before .before .before .if4 .left), eq-eqb _ _ (c .before .before .before .if5 .taken))
 
--- src/choices.rt:68:62
 usual-requires-4 : tie.Need-usual-requires-4
 usual-requires-4 c κs = search needs
 
--- src/choices.rt:68:20
 bound-punch-candidates-requires : tie.Need-bound-punch-candidates-requires
 bound-punch-candidates-requires c κs = search needs
 
--- src/choices.rt:68:5
 selection-said-requires-4 : tie.Need-selection-said-requires-4
 selection-said-requires-4 c κs = search needs
 
--- src/choices.rt:50:1
 returns-6 : tie.Need-returns-6
 unfolding choiceSaid
 returns-6 c = c .selection-said4 .ensures ∙ rw (c .before .bound-punch-candidates .ensures, c .before .before .usual4 .ensures, ne-eqb _ _ (c .before .before .before .before .before .before .before .if1 .left), ne-eqb _ _ (c .before .before .before .before .before .before .if2 .left), ne-eqb _ _ (c .before .before .before .before .before .if3 .left), ne-eqb _ _ (c .before .before .before .before .if4 .left), ne-eqb _ _ (c .before .before .before .if5 .left))

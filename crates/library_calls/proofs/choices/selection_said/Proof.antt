@@ -1,58 +1,39 @@
 use mathlib.Core.Path.{_∙_}
 use borrow.Author.Needs.{needs}
 use Rattle.library_calls.proofs.Choosing.{kept-shown, refused-said}
-use borrow.Author.Needs.{needs}
 use Rattle.library_calls.proofs.choices.selection_said.Statement.{statement}
 use Rattle.library_calls.proofs.choices.selection_said.Tie as tie
-use Rattle.library_calls.proofs.choices.selection_said.Reads as reads
-use Rattle.library_calls.proofs.choices.selection_said.Lts as lts
-use Rattle.call_table.proofs.no_bytes.Reads as no-bytes-reads
-use Rattle.call_table.proofs.say.Reads as say-reads
-use Rattle.call_table.proofs.show.Reads as show-reads
-use Rattle.refusal.proofs.Refusal.number.Reads as number-reads
-use Rattle.wire.proofs.put_bytes.Reads as put-bytes-reads
 
--- src/choices.rt:39:29
 enum-told : tie.Need-enum-told
 enum-told c = search needs
 
--- src/choices.rt:39:29
 no-bytes-requires : tie.Need-no-bytes-requires
 no-bytes-requires c κs = search needs
 
--- src/choices.rt:40:29
 slice-aggregate-put-bytes : tie.Need-slice-aggregate-put-bytes
 slice-aggregate-put-bytes c = search needs
 
--- src/choices.rt:40:36
 slice-aggregate-put-bytes-2 : tie.Need-slice-aggregate-put-bytes-2
 slice-aggregate-put-bytes-2 c = search needs
 
--- src/choices.rt:40:13
 put-bytes-requires : tie.Need-put-bytes-requires
 put-bytes-requires c κs = search needs
 
--- src/choices.rt:41:13
 show-requires : tie.Need-show-requires
 show-requires c κs = search needs
 
--- src/choices.rt:43:26
 enum-known-outcome : tie.Need-enum-known-outcome
 enum-known-outcome c = search needs
 
--- src/choices.rt:44:17
 number-requires : tie.Need-number-requires
 number-requires c κs = search needs
 
--- src/choices.rt:45:13
 say-requires : tie.Need-say-requires
 say-requires c κs = search needs
 
--- src/choices.rt:31:1
 returns : tie.Need-returns
 returns c = c .show .ensures ∙ kept-shown _ (c .before .before .before .before .before .before .enum-told .given .1) (c .before .before .before .before .before .no-bytes .ensures) (c .before .before .put-bytes .ensures)
 
--- src/choices.rt:31:1
 returns-2 : tie.Need-returns-2
 returns-2 c = c .say .ensures ∙ refused-said _ (c .before .before .before .outcome .given .1) (c .before .number .ensures)
 

@@ -1,58 +1,40 @@
 use borrow.Author.Needs.{needs}
 use native.Mathlib.Omega.{arith}
-use mathlib.Core.Path.{_∙_}
 use lib.ListN.{length-take}
 use Rattle.text.proofs.Printing.{laid, parts}
 use Rattle.line_program.proofs.Answers.{renamed}
 use Rattle.call_table.proofs.Calling.{found-by, within}
 use Rattle.library_calls.proofs.Messaging.{by-table}
-use borrow.Author.Needs.{needs}
 use Rattle.library_calls.proofs.messages.answer_by.Statement.{statement}
 use Rattle.library_calls.proofs.messages.answer_by.Tie as tie
-use Rattle.library_calls.proofs.messages.answer_by.Reads as reads
-use Rattle.library_calls.proofs.messages.answer_by.Lts as lts
-use Rattle.call_table.proofs.bytes_in.Reads as bytes-in-reads
-use Rattle.call_table.proofs.call_of.Reads as call-of-reads
-use Rattle.call_table.proofs.put_answer.Reads as put-answer-reads
-use Rattle.library_calls.proofs.messages.respond.Reads as respond-reads
 
--- src/messages.rt:172:9
 call-of-requires : tie.Need-call-of-requires
 call-of-requires c κs = search needs
 
--- src/messages.rt:174:40
 array-read-bytes-in : tie.Need-array-read-bytes-in
 array-read-bytes-in c = search needs
 
--- src/messages.rt:174:46
 array-read-bytes-in-2 : tie.Need-array-read-bytes-in-2
 array-read-bytes-in-2 c = search needs
 
--- src/messages.rt:174:9
 bytes-in-requires : tie.Need-bytes-in-requires
 bytes-in-requires c κs = search needs
 
--- src/messages.rt:177:34
 array-share-prefix-bytes : tie.Need-array-share-prefix-bytes
 array-share-prefix-bytes c = within _ _ _ (c .before .bytes-in .ensures)
 
--- src/messages.rt:177:34
 slice-aggregate-respond : tie.Need-slice-aggregate-respond
 slice-aggregate-respond c = simp length-take (omega (arith, within _ _ _ (c .before .before .bytes-in .ensures)))
 
--- src/messages.rt:177:9
 respond-requires : tie.Need-respond-requires
 respond-requires c κs = search needs
 
--- src/messages.rt:178:5
 put-answer-requires : tie.Need-put-answer-requires
 put-answer-requires c κs = search needs
 
--- src/messages.rt:167:1
 same-length : tie.Need-same-length
 same-length c = search needs
 
--- src/messages.rt:167:1
 returns : tie.Need-returns
 returns c = (found-by _ _ (c .before .before .before .before .before .before .before .before .before .call-of .ensures) (c .before .before .put-answer .ensures .0), parts (renamed (by-table _ _ (c .before .before .before .before .before .before .before .before .before .call-of .ensures) (c .before .before .before .before .before .before .before .bytes-in .ensures) (c .before .before .before .before .respond .ensures)) (laid _ _ _ (c .before .before .put-answer .ensures .1))))
 

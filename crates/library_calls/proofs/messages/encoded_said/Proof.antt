@@ -1,39 +1,26 @@
-use mathlib.Core.Path.{sym, refl}
-use borrow.Author.Tests.{le-leb, lt-leb, lt-ltb, le-ltb, eq-eqb, ne-eqb}
 use mathlib.Core.Path.{sym}
 use borrow.Author.Needs.{needs}
 use Rattle.library_calls.proofs.messages.encoded_said.Statement.{statement}
 use Rattle.library_calls.proofs.messages.encoded_said.Tie as tie
-use Rattle.library_calls.proofs.messages.encoded_said.Reads as reads
-use Rattle.library_calls.proofs.messages.encoded_said.Lts as lts
-use Rattle.call_table.proofs.show.Reads as show-reads
-use Rattle.refusal.proofs.Refusal.number.Reads as number-reads
 
--- src/messages.rt:121:26
 enum-known-e : tie.Need-enum-known-e
 enum-known-e c = search needs
 
--- src/messages.rt:121:35
 show-requires : tie.Need-show-requires
 show-requires c κs = search needs
 
--- src/messages.rt:122:26
 enum-known-e-2 : tie.Need-enum-known-e-2
 enum-known-e-2 c = search needs
 
--- src/messages.rt:123:17
 number-requires : tie.Need-number-requires
 number-requires c κs = search needs
 
--- src/messages.rt:124:13
 show-requires-2 : tie.Need-show-requires-2
 show-requires-2 c κs = search needs
 
--- src/messages.rt:117:1
 returns : tie.Need-returns
 returns c = simp (sym (c .show .ensures), c .before .before .e .given .1)
 
--- src/messages.rt:117:1
 returns-2 : tie.Need-returns-2
 returns-2 c = simp (sym (c .show2 .ensures), sym (c .before .number .ensures), c .before .before .before .e2 .given .1)
 

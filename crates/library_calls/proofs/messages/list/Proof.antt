@@ -1,37 +1,25 @@
 use mathlib.Core.Path.{sym}
 use Rattle.library_calls.specs.Messages.{listSaid}
 use borrow.Author.Needs.{needs}
-use borrow.Author.Needs.{needs}
 use Rattle.library_calls.proofs.messages.list.Statement.{statement}
 use Rattle.library_calls.proofs.messages.list.Tie as tie
-use Rattle.library_calls.proofs.messages.list.Reads as reads
-use Rattle.library_calls.proofs.messages.list.Lts as lts
-use Rattle.call_table.proofs.say.Reads as say-reads
-use Rattle.library_calls.proofs.messages.count.Reads as count-reads
-use Rattle.wire.proofs.is_broken.Reads as is-broken-reads
 
--- src/messages.rt:67:8
 is-broken-requires : tie.Need-is-broken-requires
 is-broken-requires c κs = search needs
 
--- src/messages.rt:68:9
 say-requires : tie.Need-say-requires
 say-requires c κs = search needs
 
--- src/messages.rt:68:9
 returns : tie.Need-returns
 unfolding listSaid
 returns c = simp (sym (c .say .ensures), c .before .if1 .taken, sym (c .before .before .is-broken .ensures))
 
--- src/messages.rt:70:9
 count-requires : tie.Need-count-requires
 count-requires c κs = search needs
 
--- src/messages.rt:71:5
 say-requires-2 : tie.Need-say-requires-2
 say-requires-2 c κs = search needs
 
--- src/messages.rt:64:1
 returns-2 : tie.Need-returns-2
 unfolding listSaid
 returns-2 c = simp (sym (c .say2 .ensures), c .before .before .if1 .left, sym (c .before .before .before .is-broken .ensures), sym (c .before .count .ensures))

@@ -3,45 +3,30 @@ use native.Mathlib.Omega.{arith}
 use mathlib.Core.Path.{_∙_}
 use lib.ListN.{length-take}
 use Rattle.library_calls.proofs.Messaging.{filled-length, read-long, read-shown}
-use borrow.Author.Needs.{needs}
 use Rattle.library_calls.proofs.messages.read.Statement.{statement}
 use Rattle.library_calls.proofs.messages.read.Tie as tie
-use Rattle.library_calls.proofs.messages.read.Reads as reads
-use Rattle.library_calls.proofs.messages.read.Lts as lts
-use Rattle.call_table.proofs.say.Reads as say-reads
-use Rattle.library_calls.proofs.messages.decoded_said.Reads as decoded-said-reads
-use Rattle.library_calls.proofs.messages.filled.Reads as filled-reads
-use Rattle.message.proofs.decode.Reads as decode-reads
 
--- src/messages.rt:109:9
 say-requires : tie.Need-say-requires
 say-requires c κs = search needs
 
--- src/messages.rt:109:9
 returns : tie.Need-returns
 returns c = c .say .ensures ∙ read-long _ _ (c .before .if1 .taken)
 
--- src/messages.rt:112:22
 filled-requires : tie.Need-filled-requires
 filled-requires c κs = search needs
 
--- src/messages.rt:113:36
 array-borrow-prefix-buffer : tie.Need-array-borrow-prefix-buffer
 array-borrow-prefix-buffer c = search needs
 
--- src/messages.rt:113:36
 slice-aggregate-decode : tie.Need-slice-aggregate-decode
 slice-aggregate-decode c = simp length-take (omega (arith, filled-length (c .before .filled .ensures)))
 
--- src/messages.rt:113:9
 decode-requires : tie.Need-decode-requires
 decode-requires c κs = search needs
 
--- src/messages.rt:114:5
 decoded-said-requires : tie.Need-decoded-said-requires
 decoded-said-requires c κs = search needs
 
--- src/messages.rt:105:1
 returns-2 : tie.Need-returns-2
 returns-2 c = c .decoded-said .ensures ∙ read-shown _ _ (c .before .before .before .before .before .if1 .left) (c .before .before .before .before .filled .ensures) (c .before .before .decode .kept .1 .0) (c .before .before .decode .ensures .0) (c .before .before .decode .ensures .1)
 

@@ -1,98 +1,70 @@
-use mathlib.Core.Path.{sym, refl}
-use Rattle.library_calls.specs.Messages.{messageSaid}
-use borrow.Author.Tests.{le-leb, lt-leb, lt-ltb, le-ltb, eq-eqb, ne-eqb}
 use mathlib.Core.Path.{sym}
+use Rattle.library_calls.specs.Messages.{messageSaid}
+use borrow.Author.Tests.{eq-eqb, ne-eqb}
 use borrow.Author.Needs.{needs}
 use Rattle.library_calls.proofs.messages.respond.Statement.{statement}
 use Rattle.library_calls.proofs.messages.respond.Tie as tie
-use Rattle.library_calls.proofs.messages.respond.Reads as reads
-use Rattle.library_calls.proofs.messages.respond.Lts as lts
-use Rattle.library_calls.proofs.messages.encode.Reads as encode-reads
-use Rattle.library_calls.proofs.messages.frame.Reads as frame-reads
-use Rattle.library_calls.proofs.messages.list.Reads as list-reads
-use Rattle.library_calls.proofs.messages.read.Reads as read-reads
-use Rattle.library_calls.proofs.messages.varint.Reads as varint-reads
-use Rattle.library_calls.proofs.messages.write.Reads as write-reads
 
--- src/messages.rt:146:9
 varint-requires : tie.Need-varint-requires
 varint-requires c κs = search needs
 
--- src/messages.rt:146:9
 returns : tie.Need-returns
 unfolding messageSaid
 returns c = simp (sym (c .varint .ensures), eq-eqb _ _ (c .before .if1 .taken))
 
--- src/messages.rt:149:23
 array-read-encode : tie.Need-array-read-encode
 array-read-encode c = search needs
 
--- src/messages.rt:149:9
 encode-requires : tie.Need-encode-requires
 encode-requires c κs = search needs
 
--- src/messages.rt:149:9
 returns-2 : tie.Need-returns-2
 unfolding messageSaid
 returns-2 c = simp (sym (c .encode .ensures), eq-eqb _ _ (c .before .if2 .taken), ne-eqb _ _ (c .before .before .if1 .left))
 
--- src/messages.rt:152:29
 array-read-frame : tie.Need-array-read-frame
 array-read-frame c = search needs
 
--- src/messages.rt:152:9
 frame-requires : tie.Need-frame-requires
 frame-requires c κs = search needs
 
--- src/messages.rt:152:9
 returns-3 : tie.Need-returns-3
 unfolding messageSaid
 returns-3 c = simp (sym (c .frame .ensures), eq-eqb _ _ (c .before .if3 .taken), ne-eqb _ _ (c .before .before .if2 .left), ne-eqb _ _ (c .before .before .before .if1 .left))
 
--- src/messages.rt:155:9
 list-requires : tie.Need-list-requires
 list-requires c κs = search needs
 
--- src/messages.rt:155:9
 returns-4 : tie.Need-returns-4
 unfolding messageSaid
 returns-4 c = simp (sym (c .list .ensures), eq-eqb _ _ (c .before .if4 .taken), ne-eqb _ _ (c .before .before .if3 .left), ne-eqb _ _ (c .before .before .before .if2 .left), ne-eqb _ _ (c .before .before .before .before .if1 .left))
 
--- src/messages.rt:158:28
 array-read-read : tie.Need-array-read-read
 array-read-read c = search needs
 
--- src/messages.rt:158:9
 read-requires : tie.Need-read-requires
 read-requires c κs = search needs
 
--- src/messages.rt:158:9
 returns-5 : tie.Need-returns-5
 unfolding messageSaid
 returns-5 c = simp (sym (c .read .ensures), eq-eqb _ _ (c .before .if5 .taken), ne-eqb _ _ (c .before .before .if4 .left), ne-eqb _ _ (c .before .before .before .if3 .left), ne-eqb _ _ (c .before .before .before .before .if2 .left), ne-eqb _ _ (c .before .before .before .before .before .if1 .left))
 
--- src/messages.rt:161:44
 array-read-write : tie.Need-array-read-write
 array-read-write c = search needs
 
--- src/messages.rt:161:9
 write-requires : tie.Need-write-requires
 write-requires c κs = search needs
 
--- src/messages.rt:161:9
 returns-6 : tie.Need-returns-6
 unfolding messageSaid
 returns-6 c = simp (sym (c .write .ensures), eq-eqb _ _ (c .before .if6 .taken), ne-eqb _ _ (c .before .before .if5 .left), ne-eqb _ _ (c .before .before .before .if4 .left), ne-eqb _ _ (c .before .before .before .before .if3 .left), ne-eqb _ _ (c .before .before .before .before .before .if2 .left), ne-eqb _ _ (c .before .before .before .before .before .before .if1 .left))
 
--- src/messages.rt:163:30
 array-read-write-2 : tie.Need-array-read-write-2
 array-read-write-2 c = search needs
 
--- src/messages.rt:163:5
 write-requires-2 : tie.Need-write-requires-2
 write-requires-2 c κs = search needs
 
--- src/messages.rt:142:1
 returns-7 : tie.Need-returns-7
 unfolding messageSaid
 returns-7 c = simp (sym (c .write2 .ensures), ne-eqb _ _ (c .before .if6 .left), ne-eqb _ _ (c .before .before .if5 .left), ne-eqb _ _ (c .before .before .before .if4 .left), ne-eqb _ _ (c .before .before .before .before .if3 .left), ne-eqb _ _ (c .before .before .before .before .before .if2 .left), ne-eqb _ _ (c .before .before .before .before .before .before .if1 .left))

@@ -1,39 +1,26 @@
-use mathlib.Core.Path.{sym, refl}
-use borrow.Author.Tests.{le-leb, lt-leb, lt-ltb, le-ltb, eq-eqb, ne-eqb}
 use mathlib.Core.Path.{sym}
 use borrow.Author.Needs.{needs}
 use Rattle.library_calls.proofs.messages.varint.Statement.{statement}
 use Rattle.library_calls.proofs.messages.varint.Tie as tie
-use Rattle.library_calls.proofs.messages.varint.Reads as reads
-use Rattle.library_calls.proofs.messages.varint.Lts as lts
-use Rattle.call_table.proofs.say.Reads as say-reads
-use Rattle.wire.proofs.first_varint.Reads as first-varint-reads
 
--- src/messages.rt:20:11
 first-varint-requires : tie.Need-first-varint-requires
 first-varint-requires c κs = search needs
 
--- src/messages.rt:21:25
 enum-known-value : tie.Need-enum-known-value
 enum-known-value c = search needs
 
--- src/messages.rt:21:42
 say-requires : tie.Need-say-requires
 say-requires c κs = search needs
 
--- src/messages.rt:22:49
 enum-told : tie.Need-enum-told
 enum-told c = search needs
 
--- src/messages.rt:22:30
 say-requires-2 : tie.Need-say-requires-2
 say-requires-2 c κs = search needs
 
--- src/messages.rt:17:1
 returns : tie.Need-returns
 returns c = simp (sym (c .say .ensures), c .before .before .value .given .1, sym (c .before .before .before .before .first-varint .ensures))
 
--- src/messages.rt:17:1
 returns-2 : tie.Need-returns-2
 returns-2 c = simp (sym (c .say2 .ensures), c .before .enum-told .given .1, sym (c .before .before .before .first-varint .ensures))
 

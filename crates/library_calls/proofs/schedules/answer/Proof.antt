@@ -1,25 +1,17 @@
 use borrow.Author.Needs.{needs}
 use Rattle.library_calls.specs.Schedules.{schedulesTable}
-use borrow.Author.Needs.{needs}
 use Rattle.library_calls.proofs.schedules.answer.Statement.{statement}
 use Rattle.library_calls.proofs.schedules.answer.Tie as tie
-use Rattle.library_calls.proofs.schedules.answer.Reads as reads
-use Rattle.library_calls.proofs.schedules.answer.Lts as lts
-use Rattle.library_calls.proofs.schedules.answer_by.Reads as answer-by-reads
 
--- src/schedules.rt:126:9
 slice-aggregate-answer-by : tie.Need-slice-aggregate-answer-by
 slice-aggregate-answer-by c = search needs
 
--- src/schedules.rt:125:5
 answer-by-requires : tie.Need-answer-by-requires
 answer-by-requires c κs = search needs
 
--- src/schedules.rt:119:1
 same-length : tie.Need-same-length
 same-length c = search needs
 
--- src/schedules.rt:119:1
 returns : tie.Need-returns
 unfolding schedulesTable
 returns c = c .before .before .answer-by .ensures

@@ -1,62 +1,44 @@
-use mathlib.Core.Path.{sym, refl}
-use Rattle.library_calls.specs.Schedules.{scheduleTurn}
-use borrow.Author.Tests.{le-leb, lt-leb, lt-ltb, le-ltb, eq-eqb, ne-eqb}
 use mathlib.Core.Path.{sym}
+use Rattle.library_calls.specs.Schedules.{scheduleTurn}
+use borrow.Author.Tests.{eq-eqb, ne-eqb}
 use borrow.Author.Needs.{needs}
 use Rattle.library_calls.proofs.schedules.respond.Statement.{statement}
 use Rattle.library_calls.proofs.schedules.respond.Tie as tie
-use Rattle.library_calls.proofs.schedules.respond.Reads as reads
-use Rattle.library_calls.proofs.schedules.respond.Lts as lts
-use Rattle.library_calls.proofs.schedules.due.Reads as due-reads
-use Rattle.library_calls.proofs.schedules.replied.Reads as replied-reads
-use Rattle.schedule.proofs.BlastSchedule.newly_due.Reads as newly-due-reads
 
--- src/schedules.rt:79:24
 array-read-replied : tie.Need-array-read-replied
 array-read-replied c = search needs
 
--- src/schedules.rt:79:30
 array-read-replied-2 : tie.Need-array-read-replied-2
 array-read-replied-2 c = search needs
 
--- src/schedules.rt:79:36
 array-read-replied-3 : tie.Need-array-read-replied-3
 array-read-replied-3 c = search needs
 
--- src/schedules.rt:79:42
 array-read-replied-4 : tie.Need-array-read-replied-4
 array-read-replied-4 c = search needs
 
--- src/schedules.rt:79:48
 array-read-replied-5 : tie.Need-array-read-replied-5
 array-read-replied-5 c = search needs
 
--- src/schedules.rt:79:9
 replied-requires : tie.Need-replied-requires
 replied-requires c κs = search needs
 
--- src/schedules.rt:79:9
 returns : tie.Need-returns
 unfolding scheduleTurn
 returns c = simp (sym (c .replied .ensures), eq-eqb _ _ (c .before .if1 .taken))
 
--- src/schedules.rt:81:21
 array-read-newly-due : tie.Need-array-read-newly-due
 array-read-newly-due c = search needs
 
--- src/schedules.rt:81:27
 array-read-newly-due-2 : tie.Need-array-read-newly-due-2
 array-read-newly-due-2 c = search needs
 
--- src/schedules.rt:81:9
 newly-due-requires : tie.Need-newly-due-requires
 newly-due-requires c κs = search needs
 
--- src/schedules.rt:81:5
 due-requires : tie.Need-due-requires
 due-requires c κs = search needs
 
--- src/schedules.rt:75:1
 returns-2 : tie.Need-returns-2
 unfolding scheduleTurn
 returns-2 c = simp (sym (c .due .ensures), sym (c .before .newly-due .ensures), ne-eqb _ _ (c .before .before .if1 .left))
