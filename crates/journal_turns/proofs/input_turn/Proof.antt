@@ -3,29 +3,19 @@ use Rattle.journal_turns.proofs.Turning.{all, input-left}
 use borrow.Author.Needs.{needs}
 use Rattle.journal_turns.proofs.input_turn.Statement.{statement}
 use Rattle.journal_turns.proofs.input_turn.Tie as tie
-use Rattle.journal_turns.proofs.input_turn.Reads as reads
-use Rattle.journal_turns.proofs.input_turn.Lts as lts
-use Rattle.journal_turns.proofs.settle.Reads as settle-reads
-use Rattle.lent.proofs.calls.on_dcutr_stream_input.Reads as on-dcutr-stream-input-reads
-use Rattle.rows.proofs.known.Reads as known-reads
 
--- src/lib.rt:333:5
 known-requires : tie.Need-known-requires
 known-requires c κs = search needs
 
--- src/lib.rt:335:9
 on-dcutr-stream-input-requires : tie.Need-on-dcutr-stream-input-requires
 on-dcutr-stream-input-requires c κs = search needs
 
--- src/lib.rt:349:5
 settle-requires : tie.Need-settle-requires
 settle-requires c κs = search needs
 
--- src/lib.rt:316:1
 same-length : tie.Need-same-length
 same-length c = search needs
 
--- src/lib.rt:316:1
 returns : tie.Need-returns
 returns c = let a = c .before .before .before .before .before .before .before .before .before .before .before .before .before .before .before .args in
     let p = input-left (a .j) (now (a .connect)) (now (a .targets)) (now (a .ledger)) (now (a .sent)) (c .before .before .before .before .before .before .before .before .before .before .known .ensures) (a .host) (now (a .own)) (now (a .reply))
