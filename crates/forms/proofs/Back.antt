@@ -1,23 +1,22 @@
 -- A form's values are read back from their text. Assumes nothing.
 use mathlib.Core.Path.{_≡_, refl, sym, ap, _∙_}
-use mathlib.Core.List.{List, [], _∷_, _++_, append-assoc}
+use mathlib.Core.List.{List, [], _∷_, _++_}
 use mathlib.Core.Bool.{Bool, true, false}
 use Prim.Native.Nat.{ℕ, suc, _+_, _-_, _*_, _/_, _%_, _<_, _≤_}
-use native.Mathlib.Numerals.{add-one}
 use native.Mathlib.Omega.{arith}
-use lib.Dec.{eqb, leb, ltb}
-use lib.ListN.{length, take, drop, getD, length-append}
+use lib.Dec.{eqb, ltb}
+use lib.ListN.{length, drop, length-append}
 use lib.Seq.{drop-drop, take-append-seam, drop-append-seam}
-use borrow.Author.Tests.{eqb-true, eq-eqb, ne-eqb, lt-leb, ltb-true, ltb-false}
+use borrow.Author.Tests.{eqb-true, eq-eqb, ne-eqb, lt-leb}
 use Rattle.prelude.specs.Choice.{pick, no, both}
 use Rattle.text.specs.Words.{ascii, begins, isWord, lengthBefore}
 use Rattle.prelude.specs.Numbers.{maxU64}
 use Rattle.text.specs.Decimal.{decimalOf, decimal, digitsFrom}
-use Rattle.text.specs.Hexadecimal.{isHexadecimal, bytesOf, bytesText, hexadecimal, digitOf, Bytes}
+use Rattle.text.specs.Hexadecimal.{bytesOf, hexadecimal, digitOf, Bytes}
 use Rattle.text.specs.declared.Number.the-variants as number-of
-use Rattle.text.proofs.Decimal.{number-read, number-run, read-digit}
+use Rattle.text.proofs.Decimal.{number-read, read-digit}
 use Rattle.text.proofs.Hexadecimal.{bytes-read, bytes-taken}
-use Rattle.forms.specs.Forms.{kindOf, isLiteral, opens, choice, split, whichWord, wordsOf, maybeWords, pairWords, listed, isGood, Reading, Good, Bad, prepend, followed, readFrom, readForm}
+use Rattle.forms.specs.Forms.{kindOf, isLiteral, opens, choice, wordsOf, maybeWords, pairWords, listed, isGood, Reading, Good, Bad, readFrom, readForm}
 use Rattle.forms.specs.Texts.{Value, number, some, absent, pair, unpaired, bytes, word, valueText, firstText, textFrom, text, kindOfValue, InRange, FirstFits, Either, FitsFrom, Fits, spaced, isFormFrom, isForm, width, valueIn, valuesFrom, part, valued, valuesOf}
 use Rattle.forms.specs.declared.Kind.{Kind}
 use Rattle.forms.specs.declared.Kind.the-variants as kind

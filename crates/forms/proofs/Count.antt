@@ -16,7 +16,7 @@ use Rattle.text.specs.Printed.{printed, behind}
 use Rattle.text.specs.declared.Number.{Number}
 use Rattle.text.specs.declared.Number.the-variants as number
 use Rattle.text.proofs.Printing.{fits, fits-place}
-use Rattle.forms.specs.Forms.{kindOf, isLiteral, opens, choice, split, whichWord, wordsOf, numberWords, someWords, maybeWords, bothWords, pairWords, bytesWords, listed, isGood, Reading, Good, Bad, followed, readFrom, readForm, isRead, wordsFrom, Stored}
+use Rattle.forms.specs.Forms.{kindOf, isLiteral, opens, choice, split, wordsOf, numberWords, someWords, maybeWords, bothWords, pairWords, listed, isGood, Reading, Good, Bad, followed, readFrom, readForm, isRead, wordsFrom, Stored}
 use Rattle.forms.specs.Texts.{width, countFrom, spaces, spacesFrom}
 use Rattle.forms.specs.declared.Kind.{Kind}
 use Rattle.forms.specs.declared.Kind.the-variants as kind

@@ -7,18 +7,18 @@ use native.Mathlib.Numerals.{add-one}
 use native.Mathlib.Omega.{arith}
 use lib.Dec.{eqb, leb}
 use lib.ListN.{length, take, drop, getD, take-append-drop, drop-of-length-le}
-use lib.Seq.{drop-drop, take-all}
-use borrow.Author.Tests.{eqb-true, eqb-false, eq-eqb, leb-false}
+use lib.Seq.{drop-drop}
+use borrow.Author.Tests.{eqb-true, eqb-false, leb-false}
 use Rattle.prelude.specs.Choice.{pick, no, both}
 use Rattle.text.specs.Words.{ascii, begins, isWord, lengthBefore}
-use Rattle.text.specs.Decimal.{decimalOf, decimal}
+use Rattle.text.specs.Decimal.{decimalOf}
 use Rattle.text.specs.Hexadecimal.{isHexadecimal, bytesOf, bytesText, hexadecimal}
 use Rattle.text.specs.declared.Number.{Number}
 use Rattle.text.specs.declared.Number.the-variants as number
 use Rattle.text.proofs.Decimal.{number-text, begins-split}
 use Rattle.text.proofs.Hexadecimal.{text-of-bytes}
-use Rattle.forms.specs.Forms.{kindOf, isLiteral, opens, choice, split, whichWord, wordsOf, numberWords, someWords, maybeWords, bothWords, pairWords, bytesWords, listed, isGood, Reading, Good, Bad, prepend, followed, readFrom, readForm}
-use Rattle.forms.specs.Texts.{Value, valueText, firstText, textFrom, text, width, valueIn, valuesFrom, part, valued, valuesOf}
+use Rattle.forms.specs.Forms.{kindOf, isLiteral, opens, choice, split, whichWord, wordsOf, numberWords, someWords, maybeWords, bothWords, pairWords, listed, isGood, Reading, Good, Bad, prepend, followed, readFrom, readForm}
+use Rattle.forms.specs.Texts.{Value, valueText, textFrom, text, width, valueIn, valuesFrom, part, valued, valuesOf}
 use Rattle.forms.specs.declared.Kind.{Kind}
 use Rattle.forms.specs.declared.Kind.the-variants as kind
 use Rattle.forms.specs.declared.Words.{Words}

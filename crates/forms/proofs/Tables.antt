@@ -2,15 +2,15 @@
 use mathlib.Core.Path.{_≡_, refl, sym, ap, _∙_}
 use mathlib.Core.List.{List, [], _∷_}
 use mathlib.Core.Bool.{Bool, true, false}
-use Prim.Native.Nat.{ℕ, zero, suc, _+_, _<_, _≤_}
+use Prim.Native.Nat.{ℕ, zero, suc, _+_, _<_}
 use native.Mathlib.Omega.{arith}
 use lib.Dec.{eqb}
-use lib.ListN.{length, drop, take, getD}
+use lib.ListN.{length, getD}
 use borrow.Author.Tests.{eqb-true, eq-eqb}
 use Rattle.prelude.specs.Choice.{pick, no, both, either}
-use Rattle.text.specs.Words.{begins, lengthBefore}
-use Rattle.forms.specs.Forms.{kindOf, isLiteral, opens, choice, wordsOf, Reading, Good, Bad, followed, readFrom, readForm, isRead}
-use Rattle.forms.specs.Tables.{differ, differsFrom, allDiffer, ShareNoLine, Entry, tried, said, formsOf}
+use Rattle.text.specs.Words.{begins}
+use Rattle.forms.specs.Forms.{kindOf, isLiteral, Reading, Good, Bad, readFrom, readForm}
+use Rattle.forms.specs.Tables.{differ, differsFrom, allDiffer, ShareNoLine, Entry, said, formsOf}
 
 both-true : (p q : Bool) → both p q ≡ true → (p ≡ true) × (q ≡ true)
 both-true true q e = (refl, e)

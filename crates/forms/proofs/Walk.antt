@@ -3,14 +3,13 @@ use mathlib.Core.Path.{_≡_, refl, sym, ap, _∙_}
 use mathlib.Core.List.{List, [], _∷_, _++_, append-assoc, append-nil}
 use mathlib.Core.Bool.{Bool, true, false}
 use Prim.Native.Nat.{ℕ, suc, _+_, _-_, _<_, _≤_}
-use native.Mathlib.Numerals.{add-one}
 use native.Mathlib.Omega.{arith}
 use lib.Dec.{eqb, ltb}
 use lib.ListN.{length, take, drop, getD, length-drop, drop-of-length-le}
 use lib.Seq.{drop-drop}
 use borrow.Author.Tests.{eq-eqb, ne-eqb, ltb-true, ltb-false}
 use Rattle.prelude.specs.Choice.{pick, no}
-use Rattle.text.specs.Words.{begins, isWord, lengthBefore}
+use Rattle.text.specs.Words.{begins, lengthBefore}
 use Rattle.text.specs.Printed.{printed}
 use Rattle.text.proofs.Reading.{at, before-within}
 use Rattle.text.proofs.Printing.{Laid, laid-none, rest-of, then}

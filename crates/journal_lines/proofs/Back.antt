@@ -1,5 +1,5 @@
 -- Each line is read from its text. Assumes nothing.
-use mathlib.Core.Path.{_≡_, refl, sym, ap, _∙_}
+use mathlib.Core.Path.{_≡_, refl, _∙_}
 use mathlib.Core.List.{List, [], _∷_}
 use mathlib.Core.Bool.{Bool, true, false}
 use Prim.Native.Nat.{ℕ, _≤_}
@@ -8,10 +8,10 @@ use lib.Dec.{eqb}
 use lib.ListN.{getD, drop}
 use lib.Seq.{getD-drop}
 use borrow.Author.Tests.{eq-eqb}
-use Rattle.prelude.specs.Choice.{pick, either, bit}
+use Rattle.prelude.specs.Choice.{pick, either}
 use Rattle.prelude.specs.Numbers.{maxU64}
 use Rattle.text.specs.Words.{ascii, begins, isWord, lengthBefore}
-use Rattle.text.specs.Hexadecimal.{Bytes, bytesOf}
+use Rattle.text.specs.Hexadecimal.{Bytes}
 use Rattle.ids.specs.declared.ConnectId.{ConnectId}
 use Rattle.ids.specs.declared.ConnectionId.{ConnectionId}
 use Rattle.ids.specs.declared.NatToken.{NatToken}
@@ -24,13 +24,13 @@ use Rattle.vocabulary.specs.declared.Offer.the-variants as offer
 use Rattle.vocabulary.specs.declared.Settings.{Settings}
 use Rattle.vocabulary.specs.declared.StreamInput.{StreamInput}
 use Rattle.vocabulary.specs.declared.StreamInput.the-variants as input
-use Rattle.forms.specs.Forms.{kindOf as markOf, Good, readForm, split, onFirst, whichWord}
-use Rattle.forms.specs.Texts.{Value, number, some, absent, pair, unpaired, bytes, word as chosenWord, text, part, kindOfValue, InRange, Fits, FitsFrom, isForm, isFormFrom, valueIn, valuesFrom}
+use Rattle.forms.specs.Forms.{kindOf as markOf, split, onFirst, whichWord}
+use Rattle.forms.specs.Texts.{number, some, absent, pair, unpaired, bytes, word as chosenWord, text, kindOfValue, InRange, Fits, FitsFrom, isForm, isFormFrom, valueIn, valuesFrom}
 use Rattle.forms.specs.declared.Kind.the-variants as mark
 use Rattle.forms.proofs.Only.{get}
 use Rattle.forms.proofs.Back.{got, got-none, words-read}
 use Rattle.journal_lines.specs.Forms.{settingsForm, startForm, upForm, inputForm, tickForm, wroteForm, downForm, dialForm, forgetForm, attributeForm}
-use Rattle.journal_lines.specs.Lines.{word, isSecond, liveOf, offerOf, kindOf, mayHaveBytes, settingsIn, settingsOf, startOf, upOf, inputOf, tickOf, wroteOf, downOf, dialOf, forgetOf, attributeOf, lineOf}
+use Rattle.journal_lines.specs.Lines.{word, isSecond, kindOf, mayHaveBytes, settingsIn, settingsOf, startOf, upOf, inputOf, tickOf, wroteOf, downOf, dialOf, forgetOf, attributeOf}
 use Rattle.journal_lines.specs.Texts.{liveValue, offerValue, chosen, kindValue, LiveFits, OfferFits, MayHave, settingsText, startText, upText, inputText, tickText, wroteText, downText, dialText, forgetText, attributeText, SettingsAreRead, StartIsRead, UpIsRead, InputIsRead, TickIsRead, WroteIsRead, DownIsRead, DialIsRead, ForgetIsRead, AttributeIsRead}
 use Rattle.journal_lines.specs.declared.First.the-variants as first
 use Rattle.journal_lines.specs.declared.Line.the-variants.{Start, Up, Input, Tick, Wrote, Down, Dial, Forget, Attribute}

@@ -1,13 +1,11 @@
 -- Lines from words, and the form that a line has. Assumes nothing.
-use mathlib.Core.Path.{_≡_, refl, sym, ap, _∙_}
-use mathlib.Core.List.{List, [], _∷_}
+use mathlib.Core.Path.{_≡_, refl, sym, _∙_}
+use mathlib.Core.List.{List, []}
 use mathlib.Core.Bool.{Bool, true, false}
 use Prim.Native.Nat.{ℕ, _≤_, _<_}
 use native.Mathlib.Omega.{arith}
-use lib.Dec.{eqb}
 use lib.ListN.{length, take, getD}
 use lib.Seq.{getD-take}
-use Rattle.prelude.specs.Choice.{pick, either}
 use Rattle.vocabulary.specs.declared.Live.{Live}
 use Rattle.vocabulary.specs.declared.Offer.{Offer}
 use Rattle.vocabulary.specs.declared.StreamInput.{StreamInput}
@@ -19,7 +17,6 @@ use Rattle.forms.proofs.Tables.{share-no-line, said-at}
 use Rattle.journal_lines.specs.Forms.{forms, settingsForm, startForm, upForm, inputForm, tickForm, wroteForm, downForm, dialForm, forgetForm, attributeForm}
 use Rattle.journal_lines.specs.Lines.{word, isSecond, liveOf, offerOf, kindOf, settingsIn, settingsOf, startOf, upOf, mayHaveBytes, inputOf, tickOf, wroteOf, downOf, dialOf, forgetOf, attributeOf, calls, lineOf}
 use Rattle.journal_lines.specs.declared.Digits.{Digits}
-use Rattle.journal_lines.specs.declared.First.{First}
 use Rattle.journal_lines.specs.declared.First.the-variants as first
 use Rattle.journal_lines.specs.declared.Line.{Line}
 use Rattle.journal_lines.specs.declared.Line.the-variants.{Input, Unknown}

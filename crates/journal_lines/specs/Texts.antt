@@ -23,7 +23,6 @@ use Rattle.journal_lines.specs.Forms.{settingsForm, startForm, upForm, i
 use Rattle.journal_lines.specs.Lines.{settingsOf, lineOf}
 use Rattle.journal_lines.specs.declared.Digits.{Digits}
 use Rattle.journal_lines.specs.declared.First.the-variants as first
-use Rattle.journal_lines.specs.declared.Line.{Line}
 use Rattle.journal_lines.specs.declared.Line.the-variants.{Start, Up, Input, Tick, Wrote, Down, Dial, Forget, Attribute}
 
 -- ---- values

@@ -2,11 +2,10 @@
 use mathlib.Core.Path.{_≡_, refl}
 use mathlib.Core.List.{List, [], _∷_, _++_}
 use mathlib.Core.Bool.{Bool, true, false}
-use Prim.Native.Nat.{ℕ, zero, suc, _+_, _-_, _*_, _/_, _%_, _<_, _≤_}
+use Prim.Native.Nat.{ℕ, zero, suc, _+_, _-_, _*_, _≤_}
 use native.Mathlib.Omega.{arith}
-use lib.Dec.{ltb, eqb}
+use lib.Dec.{eqb}
 use lib.ListN.{length, take, drop, length-append, length-take, length-drop}
-use borrow.Author.Tests.{ltb-true, ltb-false}
 use Rattle.prelude.specs.Choice.{pick}
 use Rattle.prelude.specs.Numbers.{maxU64}
 use Rattle.text.specs.Hexadecimal.{hexadecimal}

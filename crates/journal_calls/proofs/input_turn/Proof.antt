@@ -4,23 +4,18 @@ use borrow.Author.Needs.{needs}
 use Rattle.journal_calls.proofs.input_turn.Statement.{statement}
 use Rattle.journal_calls.proofs.input_turn.Tie as tie
 
--- src/lib.rt:333:5
 known-requires : tie.Need-known-requires
 known-requires c κs = search needs
 
--- src/lib.rt:335:9
 on-dcutr-stream-input-requires : tie.Need-on-dcutr-stream-input-requires
 on-dcutr-stream-input-requires c κs = search needs
 
--- src/lib.rt:349:5
 settle-requires : tie.Need-settle-requires
 settle-requires c κs = search needs
 
--- src/lib.rt:316:1
 same-length : tie.Need-same-length
 same-length c = search needs
 
--- src/lib.rt:316:1
 returns : tie.Need-returns
 returns c = let a = c .before .before .before .before .before .before .before .before .before .before .before .before .before .before .before .args in
     let p = input-left (a .j) (now (a .connect)) (now (a .targets)) (now (a .ledger)) (now (a .sent)) (c .before .before .before .before .before .before .before .before .before .before .known .ensures) (a .host) (now (a .own)) (now (a .reply))

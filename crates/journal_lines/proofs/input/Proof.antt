@@ -3,112 +3,79 @@ use Rattle.journal_lines.proofs.Made.{input-made, input-unmade}
 use borrow.Author.Needs.{needs}
 use Rattle.journal_lines.proofs.input.Statement.{statement}
 use Rattle.journal_lines.proofs.input.Tie as tie
-use Rattle.journal_lines.proofs.input.Reads as reads
-use Rattle.journal_lines.proofs.input.Lts as lts
-use Rattle.journal_lines.proofs.digits_at.Reads as digits-at-reads
-use Rattle.journal_lines.proofs.is_second.Reads as is-second-reads
-use Rattle.journal_lines.proofs.kind.Reads as kind-reads
-use Rattle.journal_lines.proofs.live.Reads as live-reads
-use Rattle.journal_lines.proofs.may_have_bytes.Reads as may-have-bytes-reads
-use Rattle.journal_lines.proofs.offer.Reads as offer-reads
 
--- src/lib.rt:234:23
 element-copy-out-may-have-bytes : tie.Need-element-copy-out-may-have-bytes
 element-copy-out-may-have-bytes c = search needs
 
--- src/lib.rt:234:29
 element-copy-out-may-have-bytes-2 : tie.Need-element-copy-out-may-have-bytes-2
 element-copy-out-may-have-bytes-2 c = search needs
 
--- src/lib.rt:234:35
 element-copy-out-may-have-bytes-3 : tie.Need-element-copy-out-may-have-bytes-3
 element-copy-out-may-have-bytes-3 c = search needs
 
--- src/lib.rt:234:8
 may-have-bytes-requires : tie.Need-may-have-bytes-requires
 may-have-bytes-requires c κs = search needs
 
--- src/lib.rt:236:17
 element-copy-out-t14 : tie.Need-element-copy-out-t14
 element-copy-out-t14 c = search needs
 
--- src/lib.rt:237:30
 element-copy-out-t17 : tie.Need-element-copy-out-t17
 element-copy-out-t17 c = search needs
 
--- src/lib.rt:238:24
 element-copy-out-kind : tie.Need-element-copy-out-kind
 element-copy-out-kind c = search needs
 
--- src/lib.rt:238:19
 kind-requires : tie.Need-kind-requires
 kind-requires c κs = search needs
 
--- src/lib.rt:239:30
 element-copy-out-digits-at : tie.Need-element-copy-out-digits-at
 element-copy-out-digits-at c = search needs
 
--- src/lib.rt:239:36
 element-copy-out-digits-at-2 : tie.Need-element-copy-out-digits-at-2
 element-copy-out-digits-at-2 c = search needs
 
--- src/lib.rt:239:20
 digits-at-requires : tie.Need-digits-at-requires
 digits-at-requires c κs = search needs
 
--- src/lib.rt:240:24
 element-copy-out-live : tie.Need-element-copy-out-live
 element-copy-out-live c = search needs
 
--- src/lib.rt:240:30
 element-copy-out-live-2 : tie.Need-element-copy-out-live-2
 element-copy-out-live-2 c = search needs
 
--- src/lib.rt:240:19
 live-requires : tie.Need-live-requires
 live-requires c κs = search needs
 
--- src/lib.rt:241:26
 element-copy-out-offer : tie.Need-element-copy-out-offer
 element-copy-out-offer c = search needs
 
--- src/lib.rt:241:32
 element-copy-out-offer-2 : tie.Need-element-copy-out-offer-2
 element-copy-out-offer-2 c = search needs
 
--- src/lib.rt:241:38
 element-copy-out-offer-3 : tie.Need-element-copy-out-offer-3
 element-copy-out-offer-3 c = search needs
 
--- src/lib.rt:241:20
 offer-requires : tie.Need-offer-requires
 offer-requires c κs = search needs
 
--- src/lib.rt:242:32
 element-copy-out-is-second : tie.Need-element-copy-out-is-second
 element-copy-out-is-second c = search needs
 
--- src/lib.rt:242:22
 is-second-requires : tie.Need-is-second-requires
 is-second-requires c κs = search needs
 
--- src/lib.rt:243:28
 element-copy-out-digits-at-3 : tie.Need-element-copy-out-digits-at-3
 element-copy-out-digits-at-3 c = search needs
 
--- src/lib.rt:243:35
 element-copy-out-digits-at-4 : tie.Need-element-copy-out-digits-at-4
 element-copy-out-digits-at-4 c = search needs
 
--- src/lib.rt:243:18
 digits-at-requires-2 : tie.Need-digits-at-requires-2
 digits-at-requires-2 c κs = search needs
 
--- src/lib.rt:235:9
 returns : tie.Need-returns
 returns c = input-made (now (c .before .before .before .before .before .before .before .before .before .before .before .before .before .before .before .before .before .before .before .before .before .before .before .before .args .w)) (c .before .before .before .before .before .before .before .before .before .before .before .before .before .before .before .before .before .before .before .before .may-have-bytes .ensures) (c .before .before .before .before .before .before .before .before .before .before .before .before .before .before .before .kind .ensures) (c .before .before .before .before .before .before .before .before .before .before .before .before .digits-at .ensures) (c .before .before .before .before .before .before .before .before .before .live .ensures) (c .before .before .before .before .before .offer .ensures) (c .before .before .before .is-second .ensures) (c .digits-at2 .ensures) (c .before .before .before .before .before .before .before .before .before .before .before .before .before .before .before .before .before .before .before .if1 .taken)
 
--- src/lib.rt:231:1
 returns-2 : tie.Need-returns-2
 returns-2 c = input-unmade (now (c .before .before .before .before .before .args .w)) (c .before .may-have-bytes .ensures) (c .if1 .left)
 

@@ -1,22 +1,16 @@
 use borrow.Author.Tests.{eq-eqb, ne-eqb}
 use Rattle.journal_lines.proofs.kind.Statement.{statement}
 use Rattle.journal_lines.proofs.kind.Tie as tie
-use Rattle.journal_lines.proofs.kind.Reads as reads
-use Rattle.journal_lines.proofs.kind.Lts as lts
 
--- src/lib.rt:150:9
 returns : tie.Need-returns
 returns c = simp (eq-eqb _ _ (c .if1 .taken))
 
--- src/lib.rt:153:9
 returns-2 : tie.Need-returns-2
 returns-2 c = simp (eq-eqb _ _ (c .if2 .taken), ne-eqb _ _ (c .before .if1 .left))
 
--- src/lib.rt:156:9
 returns-3 : tie.Need-returns-3
 returns-3 c = simp (eq-eqb _ _ (c .if3 .taken), ne-eqb _ _ (c .before .if2 .left), ne-eqb _ _ (c .before .before .if1 .left))
 
--- src/lib.rt:146:1
 returns-4 : tie.Need-returns-4
 returns-4 c = simp (ne-eqb _ _ (c .if3 .left), ne-eqb _ _ (c .before .if2 .left), ne-eqb _ _ (c .before .before .if1 .left))
 

@@ -1,10 +1,7 @@
 use Rattle.journal_lines.proofs.Made.{no-shared-line}
 use Rattle.journal_lines.proofs.no_two_forms_share_a_line.Statement.{statement}
 use Rattle.journal_lines.proofs.no_two_forms_share_a_line.Tie as tie
-use Rattle.journal_lines.proofs.no_two_forms_share_a_line.Reads as reads
-use Rattle.journal_lines.proofs.no_two_forms_share_a_line.Lts as lts
 
--- src/lib.rt:376:1
 returns : tie.Need-returns
 returns c = no-shared-line
 

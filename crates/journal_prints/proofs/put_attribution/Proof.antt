@@ -2,24 +2,16 @@ use Rattle.text.proofs.Printing.{laid, length-kept}
 use borrow.Author.Needs.{needs}
 use Rattle.journal_prints.proofs.put_attribution.Statement.{statement}
 use Rattle.journal_prints.proofs.put_attribution.Tie as tie
-use Rattle.journal_prints.proofs.put_attribution.Reads as reads
-use Rattle.journal_prints.proofs.put_attribution.Lts as lts
-use Rattle.journal_prints.proofs.path_place.Reads as path-place-reads
-use Rattle.journal_prints.proofs.put_owner.Reads as put-owner-reads
 
--- src/lib.rt:248:9
 path-place-requires : tie.Need-path-place-requires
 path-place-requires c κs = search needs
 
--- src/lib.rt:249:5
 put-owner-requires : tie.Need-put-owner-requires
 put-owner-requires c κs = search needs
 
--- src/lib.rt:242:1
 same-length : tie.Need-same-length
 same-length c = length-kept (laid _ _ _ (c .before .before .put-owner .ensures))
 
--- src/lib.rt:242:1
 returns : tie.Need-returns
 returns c = rw (c .before .before .before .before .path-place .ensures) at (c .before .before .put-owner .ensures)
 

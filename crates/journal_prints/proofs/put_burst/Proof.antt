@@ -1,45 +1,32 @@
 use mathlib.Core.Path.{_∙_}
-use Rattle.text.proofs.Printing.{laid, parts, then, length-kept}
+use Rattle.text.proofs.Printing.{laid, parts, length-kept}
 use Rattle.forms.proofs.Print.{same}
 use Rattle.journal_prints.proofs.Words.{burst-text, after}
 use borrow.Author.Needs.{needs}
 use Rattle.journal_prints.proofs.put_burst.Statement.{statement}
 use Rattle.journal_prints.proofs.put_burst.Tie as tie
-use Rattle.journal_prints.proofs.put_burst.Reads as reads
-use Rattle.journal_prints.proofs.put_burst.Lts as lts
-use Rattle.forms.proofs.put_form.Reads as put-form-reads
-use Rattle.journal_prints.proofs.put_targets.Reads as put-targets-reads
-use Rattle.text.proofs.put_byte.Reads as put-byte-reads
 
--- src/lib.rt:139:9
 slice-aggregate-put-form : tie.Need-slice-aggregate-put-form
 slice-aggregate-put-form c = search needs
 
--- src/lib.rt:140:9
 slice-aggregate-put-form-2 : tie.Need-slice-aggregate-put-form-2
 slice-aggregate-put-form-2 c = search needs
 
--- src/lib.rt:141:9
 slice-aggregate-put-form-3 : tie.Need-slice-aggregate-put-form-3
 slice-aggregate-put-form-3 c = search needs
 
--- src/lib.rt:138:9
 put-form-requires : tie.Need-put-form-requires
 put-form-requires c κs = search needs
 
--- src/lib.rt:145:9
 put-targets-requires : tie.Need-put-targets-requires
 put-targets-requires c κs = search needs
 
--- src/lib.rt:146:5
 put-byte-requires : tie.Need-put-byte-requires
 put-byte-requires c κs = search needs
 
--- src/lib.rt:126:1
 same-length : tie.Need-same-length
 same-length c = length-kept (laid _ _ _ (c .before .before .put-byte .ensures)) ∙ length-kept (laid _ _ _ (c .before .before .before .before .before .before .put-targets .ensures)) ∙ length-kept (laid _ _ _ (c .before .before .before .before .before .before .before .before .before .before .put-form .ensures))
 
--- src/lib.rt:126:1
 returns : tie.Need-returns
 returns c = parts (after (same (burst-text _ _ _ _) (laid _ _ _ (c .before .before .before .before .before .before .before .before .before .before .put-form .ensures))) (laid _ _ _ (c .before .before .before .before .before .before .put-targets .ensures)) (laid _ _ _ (c .before .before .put-byte .ensures)))
 

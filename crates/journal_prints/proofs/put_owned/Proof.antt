@@ -5,36 +5,25 @@ use Rattle.journal_prints.proofs.Words.{owned-text}
 use borrow.Author.Needs.{needs}
 use Rattle.journal_prints.proofs.put_owned.Statement.{statement}
 use Rattle.journal_prints.proofs.put_owned.Tie as tie
-use Rattle.journal_prints.proofs.put_owned.Reads as reads
-use Rattle.journal_prints.proofs.put_owned.Lts as lts
-use Rattle.forms.proofs.put_form.Reads as put-form-reads
-use Rattle.text.proofs.put_byte.Reads as put-byte-reads
 
--- src/lib.rt:206:9
 slice-aggregate-put-form : tie.Need-slice-aggregate-put-form
 slice-aggregate-put-form c = search needs
 
--- src/lib.rt:207:9
 slice-aggregate-put-form-2 : tie.Need-slice-aggregate-put-form-2
 slice-aggregate-put-form-2 c = search needs
 
--- src/lib.rt:208:9
 slice-aggregate-put-form-3 : tie.Need-slice-aggregate-put-form-3
 slice-aggregate-put-form-3 c = search needs
 
--- src/lib.rt:205:9
 put-form-requires : tie.Need-put-form-requires
 put-form-requires c κs = search needs
 
--- src/lib.rt:212:5
 put-byte-requires : tie.Need-put-byte-requires
 put-byte-requires c κs = search needs
 
--- src/lib.rt:200:1
 same-length : tie.Need-same-length
 same-length c = length-kept (laid _ _ _ (c .before .before .put-byte .ensures)) ∙ length-kept (laid _ _ _ (c .before .before .before .before .before .before .put-form .ensures))
 
--- src/lib.rt:200:1
 returns : tie.Need-returns
 returns c = parts (then (same (owned-text _ _ _ _) (laid _ _ _ (c .before .before .before .before .before .before .put-form .ensures))) (laid _ _ _ (c .before .before .put-byte .ensures)))
 

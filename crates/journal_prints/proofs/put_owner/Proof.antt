@@ -2,56 +2,40 @@ use Rattle.text.proofs.Printing.{laid, length-kept}
 use borrow.Author.Needs.{needs}
 use Rattle.journal_prints.proofs.put_owner.Statement.{statement}
 use Rattle.journal_prints.proofs.put_owner.Tie as tie
-use Rattle.journal_prints.proofs.put_owner.Reads as reads
-use Rattle.journal_prints.proofs.put_owner.Lts as lts
-use Rattle.journal_prints.proofs.put_named.Reads as put-named-reads
-use Rattle.journal_prints.proofs.put_owned.Reads as put-owned-reads
 
--- src/lib.rt:236:24
 enum-known-owner : tie.Need-enum-known-owner
 enum-known-owner c = search needs
 
--- src/lib.rt:236:31
 put-owned-requires : tie.Need-put-owned-requires
 put-owned-requires c κs = search needs
 
--- src/lib.rt:237:50
 enum-told : tie.Need-enum-told
 enum-told c = search needs
 
--- src/lib.rt:237:27
 put-named-requires : tie.Need-put-named-requires
 put-named-requires c κs = search needs
 
--- src/lib.rt:238:47
 enum-told-2 : tie.Need-enum-told-2
 enum-told-2 c = search needs
 
--- src/lib.rt:238:24
 put-named-requires-2 : tie.Need-put-named-requires-2
 put-named-requires-2 c κs = search needs
 
--- src/lib.rt:231:1
 same-length : tie.Need-same-length
 same-length c = length-kept (laid _ _ _ (c .before .before .put-owned .ensures))
 
--- src/lib.rt:231:1
 returns : tie.Need-returns
 returns c = rw (c .before .before .before .before .before .owner .given .1) (c .before .before .put-owned .ensures)
 
--- src/lib.rt:231:1
 same-length-2 : tie.Need-same-length-2
 same-length-2 c = length-kept (laid _ _ _ (c .before .before .put-named .ensures))
 
--- src/lib.rt:231:1
 returns-2 : tie.Need-returns-2
 returns-2 c = rw (c .before .before .before .before .enum-told .given .1) (c .before .before .put-named .ensures)
 
--- src/lib.rt:231:1
 same-length-3 : tie.Need-same-length-3
 same-length-3 c = length-kept (laid _ _ _ (c .before .before .put-named2 .ensures))
 
--- src/lib.rt:231:1
 returns-3 : tie.Need-returns-3
 returns-3 c = rw (c .before .before .before .before .enum-told2 .given .1) (c .before .before .put-named2 .ensures)
 

@@ -1,45 +1,32 @@
-use mathlib.Core.Path.{_∙_, ap, sym}
+use mathlib.Core.Path.{_∙_}
 use Rattle.text.proofs.Printing.{laid, parts, then, length-kept}
 use Rattle.forms.proofs.Print.{same}
 use Rattle.journal_prints.proofs.Words.{refused-by}
 use borrow.Author.Needs.{needs}
 use Rattle.journal_prints.proofs.put_refused.Statement.{statement}
 use Rattle.journal_prints.proofs.put_refused.Tie as tie
-use Rattle.journal_prints.proofs.put_refused.Reads as reads
-use Rattle.journal_prints.proofs.put_refused.Lts as lts
-use Rattle.forms.proofs.put_form.Reads as put-form-reads
-use Rattle.refusal.proofs.Refusal.number.Reads as number-reads
-use Rattle.text.proofs.put_byte.Reads as put-byte-reads
 
--- src/lib.rt:266:21
 number-requires : tie.Need-number-requires
 number-requires c κs = search needs
 
--- src/lib.rt:267:29
 slice-aggregate-put-form : tie.Need-slice-aggregate-put-form
 slice-aggregate-put-form c = search needs
 
--- src/lib.rt:267:55
 slice-aggregate-put-form-2 : tie.Need-slice-aggregate-put-form-2
 slice-aggregate-put-form-2 c = search needs
 
--- src/lib.rt:267:63
 slice-aggregate-put-form-3 : tie.Need-slice-aggregate-put-form-3
 slice-aggregate-put-form-3 c = search needs
 
--- src/lib.rt:267:9
 put-form-requires : tie.Need-put-form-requires
 put-form-requires c κs = search needs
 
--- src/lib.rt:268:5
 put-byte-requires : tie.Need-put-byte-requires
 put-byte-requires c κs = search needs
 
--- src/lib.rt:262:1
 same-length : tie.Need-same-length
 same-length c = length-kept (laid _ _ _ (c .before .before .put-byte .ensures)) ∙ length-kept (laid _ _ _ (c .before .before .before .before .before .before .put-form .ensures))
 
--- src/lib.rt:262:1
 returns : tie.Need-returns
 returns c = parts (then (same (refused-by _ _ (c .before .before .before .before .before .before .before .before .before .before .before .before .before .args .refusal) (c .before .before .before .before .before .before .before .before .before .before .before .number .ensures)) (laid _ _ _ (c .before .before .before .before .before .before .put-form .ensures))) (laid _ _ _ (c .before .before .put-byte .ensures)))
 
