@@ -16,8 +16,9 @@ use Rattle.text.specs.Printed.{printed, behind}
 use Rattle.text.proofs.Printing.{Laid, fits, fits-place, laid-none}
 use Rattle.line_program.proofs.Answers.{renamed, bytes-shorter}
 use Rattle.lines.specs.Lines.{longest}
-use Rattle.forms.specs.Forms.{Reading, Good, Bad, readForm, isRead, StoredAs, Stored}
+use Rattle.forms.specs.Forms.{Reading, Good, Bad, readForm, isRead, Stored}
 use Rattle.forms.specs.Texts.{text, valuesIn, part}
+use Rattle.forms.proofs.Count.{all-words}
 use Rattle.forms.proofs.Print.{part-none, part-cut}
 use Rattle.call_table.specs.Tables.{partFrom, partText, rowAt, noWords, triedBy, wordsBy, noCall, callBy, callFrom, callOf, blank, bytesIn, decoded, saidBy, saidText, answerText}
 use Rattle.call_table.specs.declared.Part.{Part}
@@ -27,9 +28,10 @@ use Rattle.call_table.specs.declared.Bytes.{Bytes}
 use Rattle.call_table.specs.declared.Said.{Said}
 
 -- ---- a row
-tried-by : (r : Reading (List ℕ)) (x : List ℕ) → true ≡ isRead r → StoredAs r noWords x → record { good = true; words = x } ≡ triedBy r
-tried-by (Good ws) x e s = rw s
-tried-by Bad x e s = let z : _≡_ {A = ℕ} 0 1 = cc in absurd (omega arith)
+tried-by : (form line x : List ℕ) (r : Reading (List ℕ)) → readForm form line ≡ r → true ≡ isRead r → Stored form line noWords x → record { good = true; words = x } ≡ triedBy r
+unfolding readForm
+tried-by form line x (Good ws) h e s = rw (s, all-words false form 0 line ws h)
+tried-by form line x Bad h e s = let z : _≡_ {A = ℕ} 0 1 = cc in absurd (omega arith)
 
 not-tried : (r : Reading (List ℕ)) → false ≡ isRead r → record { good = false; words = noWords } ≡ triedBy r
 not-tried (Good ws) e = let z : _≡_ {A = ℕ} 0 1 = cc in absurd (omega arith)
@@ -38,7 +40,7 @@ not-tried Bad e = refl
 module _ (row line : List ℕ) {p : Part} {r : Bool} (e : p ≡ partFrom 124 row 0 0) (f : r ≡ isRead (readForm (partText row p) line)) where
   pub row-read : {x : List ℕ} → Stored (partText row p) line noWords x → r ≡ true → record { good = true; words = x } ≡ wordsBy row line
   unfolding wordsBy
-  row-read {x} s t = rw (← e) (tried-by (readForm (partText row p) line) x (sym t ∙ f) s)
+  row-read {x} s t = rw (← e) (tried-by (partText row p) line x (readForm (partText row p) line) refl (sym t ∙ f) s)
 
   pub row-unread : r ≡ false → record { good = false; words = noWords } ≡ wordsBy row line
   unfolding wordsBy

@@ -7,7 +7,8 @@ use lib.ListN.{take}
 use Rattle.line_program.specs.declared.Reading.{Reading}
 use Rattle.library_calls.specs.declared.Kept.{Kept}
 use Rattle.call_lines.specs.Turns.{turn, lineTurn}
-use Rattle.calls.specs.Steps.{isLine, stepOf}
+use Rattle.line_program.specs.Waits.{isLine}
+use Rattle.calls.specs.Steps.{stepOf}
 
 module _ (k : Kept) (ws line : List ℕ) (s : Reading) {b : Bool} (e : b ≡ isLine (s .failed) (s .ended) (s .used)) where
   pub step-line : b ≡ true → lineTurn k ws (take (s .used) line) (s .ended) ≡ stepOf s line k ws

@@ -8,7 +8,7 @@ use lib.ListN.{length}
 use Rattle.prelude.specs.Choice.{pick}
 use Rattle.line_program.specs.Reads.{left, feed}
 use Rattle.call_lines.specs.Turns.{Turn, turn, lineTurn}
-use Rattle.calls.specs.Steps.{isLine}
+use Rattle.line_program.specs.Waits.{isLine}
 use Rattle.library_calls.specs.declared.Kept.{Kept}
 use Rattle.calls.specs.declared.Step.{Step}
 

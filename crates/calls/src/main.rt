@@ -6,24 +6,11 @@ ghost use lib.ListN.{length};
 ghost use Rattle.text.specs.Printed.{printed, behind};
 ghost use Rattle.line_program.specs.Reads.{left, NextLine};
 ghost use Rattle.lines.specs.Lines.{longest};
-ghost use Rattle.calls.specs.Steps.{isLine, stepOf};
+ghost use Rattle.calls.specs.Steps.{stepOf};
 ghost use Rattle.calls.specs.Runs.{Ran};
 use ledger::Ledger;
 use library_calls::Kept;
 use line_program::Reading;
-
-// Whether a line was read, and not the input's end or a failure. An empty line without a line feed is none.
-fn is_line(failed: bool, ended: bool, used: usize) -> bool
-    ensures { λ r. ⌜ r ≡ isLine failed ended used ⌝ }
-{
-    if failed {
-        return false;
-    }
-    if ended {
-        return true;
-    }
-    0 < used
-}
 
 // Where the input stands behind a line, what is kept, how many bytes of the buffer were handed over to be written, and whether they were.
 pub struct Step {
@@ -50,7 +37,7 @@ fn take_step(
     ensures read { λ r. ⌜ NextLine (now (line .entry)) (left (now (block .entry)) from until) (now (block .exit)) (now (line .exit)) (r .reading) ⌝ }
 {
     let s = line_program::next_line(block, line, from, until);
-    if is_line(s.failed, s.ended, s.used) {
+    if line_program::is_line(s.failed, s.ended, s.used) {
         let used = s.used;
         let a = call_lines::answer_line(kept, ledger, &line[..used], s.ended, out);
         let next = a.kept;

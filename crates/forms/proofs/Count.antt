@@ -90,7 +90,7 @@ counted false (b ∷ form) at s ws h =
         omega (arith, l, length-append (listed w) (q .1), wide (kindOf b) (choice (kindOf b) form) (take (lengthBefore 32 s) s) at (at + lengthBefore 32 s) (q .0), g (at + lengthBefore 32 s) (drop (lengthBefore 32 s) s) (q .1) (q .2))
 
 -- a line that is read has its words stored
-all-words : (within : Bool) (form : List ℕ) (at : ℕ) (s ws : List ℕ) → readFrom within form at s ≡ Good ws → wordsFrom within form at s ≡ ws
+pub all-words : (within : Bool) (form : List ℕ) (at : ℕ) (s ws : List ℕ) → readFrom within form at s ≡ Good ws → wordsFrom within form at s ≡ ws
 unfolding readFrom wordsFrom
 all-words within [] at [] ws h = cc
 all-words within [] at (a ∷ s) ws h = let z : _≡_ {A = ℕ} 0 1 = cc in absurd (omega arith)
