@@ -8,7 +8,7 @@ import re
 import sys
 
 from model import (HEX, LONGEST_LINE, LONGEST_MESSAGE, NUMBER, ROWS, ROUNDS, TOP, Malformed, Refused, Window, WrongType,
-                   capped, chosen, eligible, entries, judge, own_candidates, parsed, read_message, read_varint, varint)
+                   bounded, capped, chosen, eligible, entries, judge, own_candidates, parsed, read_message, read_varint, varint)
 
 NAMES = {'HEX': HEX, 'N': NUMBER, 'FLAG': '[01]'}
 
@@ -115,7 +115,7 @@ class Messages:
 
 
 class Candidates:
-    forms = ['do=eligible private=FLAG address=HEX', 'do=select private=FLAG list=HEX', 'do=own list=HEX']
+    forms = ['do=eligible private=FLAG address=HEX', 'do=select private=FLAG list=HEX', 'do=own list=HEX', 'do=bound list=HEX']
 
     def eligible(self, call):
         address = parsed(call['address'])
@@ -128,6 +128,9 @@ class Candidates:
 
     def own(self, call):
         return self.kept(call, own_candidates)
+
+    def bound(self, call):
+        return self.kept(call, lambda found: bounded(address for address in found if parsed(address)))
 
     @staticmethod
     def kept(call, choose):

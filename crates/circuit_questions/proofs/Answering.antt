@@ -7,7 +7,8 @@ use Rattle.prelude.specs.Choice.{bit}
 use Rattle.text.specs.Words.{ascii}
 use Rattle.text.specs.Decimal.{decimal}
 use Rattle.text.specs.Printed.{printed, behind}
-use Rattle.journal_turns.specs.Turns.{Journal, Turned, lineTurn}
+use Rattle.journal_calls.specs.Calls.{Journal, Turned}
+use Rattle.journal_turns.specs.Turns.{lineTurn}
 use Rattle.circuit_questions.specs.declared.Answers.{Answers}
 use Rattle.circuit_questions.specs.Answers.{answersOf, nextText, answersText, turnText, lineText}
 

@@ -9,7 +9,8 @@ use Rattle.path.specs.declared.Claim.{Claim}
 use Rattle.vocabulary.specs.declared.Deadline.{Deadline}
 use Rattle.circuit.specs.declared.state.Core.{Core}
 use Rattle.circuit.specs.Questions.{promotesOf, claimOf, nextDeadlineAt}
-use Rattle.journal_turns.specs.Turns.{Journal, Turned, lineTurn}
+use Rattle.journal_calls.specs.Calls.{Journal, Turned}
+use Rattle.journal_turns.specs.Turns.{lineTurn}
 use Rattle.circuit_questions.specs.declared.Answers.{Answers}
 use Rattle.path.specs.declared.Claim.the-variants as claim
 use Rattle.vocabulary.specs.declared.Deadline.the-variants as deadline

@@ -9,7 +9,7 @@ use lib.Seq.{take-all}
 use Rattle.prelude.specs.Lists.{padded}
 use Rattle.ids.specs.declared.NatToken.{NatToken}
 use Rattle.ids.specs.declared.ConnectionId.{ConnectionId}
-use Rattle.rows.specs.declared.Row.{Row}
+use Rattle.kinds.specs.declared.Row.{Row}
 use Rattle.rows.specs.Words.{noRow}
 use Rattle.dials.specs.declared.First.{First}
 use Rattle.dials.specs.declared.Firsts.{Firsts}

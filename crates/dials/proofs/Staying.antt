@@ -7,7 +7,7 @@ use native.Mathlib.Omega.{arith}
 use lib.ListN.{length, getD, take, set, replicate}
 use Rattle.prelude.specs.Choice.{pick}
 use Rattle.ids.specs.declared.ConnectId.{ConnectId}
-use Rattle.rows.specs.declared.Row.{Row}
+use Rattle.kinds.specs.declared.Row.{Row}
 use Rattle.rows.specs.Rows.{marked}
 use Rattle.rows.specs.Words.{noRow}
 use Rattle.dials.specs.declared.First.{First}

@@ -15,11 +15,11 @@ use Rattle.ids.specs.declared.NatToken.{NatToken}
 use Rattle.path.specs.declared.DialPurpose.{DialPurpose}
 use Rattle.path.specs.declared.DialPurpose.the-variants.{Relay, Punch, Probe, Reserve}
 use Rattle.path.specs.declared.Dial.{Dial}
-use Rattle.rows.specs.declared.Entry.{Entry}
-use Rattle.rows.specs.declared.Entry.the-variants.{Other as OtherEntry, Dialed, Window, Path as PathEntry}
-use Rattle.rows.specs.declared.Row.{Row}
+use Rattle.kinds.specs.declared.Entry.{Entry}
+use Rattle.kinds.specs.declared.Entry.the-variants.{Other as OtherEntry, Dialed, Window, Path as PathEntry}
+use Rattle.kinds.specs.declared.Row.{Row}
 use Rattle.rows.specs.declared.Marks.{Marks}
-use Rattle.rows.specs.Kinds.{entryOf}
+use Rattle.kinds.specs.Kinds.{entryOf}
 use Rattle.rows.specs.Rows.{capacity}
 use Rattle.dials.specs.declared.FirstLive.{FirstLive}
 use Rattle.dials.specs.declared.FirstLive.the-variants.{None as NoLive, At as LiveAt}

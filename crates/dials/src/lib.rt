@@ -8,13 +8,13 @@ use ids::ConnectId;
 use ids::ConnectionId;
 use ids::NatToken;
 use ids::PeerId;
+use kinds::Entry;
+use kinds::Row;
 use path::Dial;
 use path::DialPurpose;
-use rows::Entry;
 use rows::Ledger;
 use rows::Marks;
 use rows::ROWS;
-use rows::Row;
 use rows::Table;
 
 // A peer's first live connection, if it has one.
@@ -105,7 +105,7 @@ fn asked_by(purpose: DialPurpose, target: PeerId) -> PeerId
 pub fn asked_of(row: Row, target: PeerId) -> PeerId
     ensures { λ r. ⌜ r ≡ askedOf target row ⌝ }
 {
-    let entry = rows::entry_of(row);
+    let entry = kinds::entry_of(row);
     match entry {
         Entry::Dialed(dial) => {
             let purpose = dial.purpose;
@@ -160,7 +160,7 @@ fn fate_at(row: Row, id: ConnectId, first: First) -> Fate
     ensures { λ r. ⌜ r ≡ fateAt id row first ⌝ }
 {
     let key = row.key;
-    let entry = rows::entry_of(row);
+    let entry = kinds::entry_of(row);
     let live = first.live;
     let is_live = is_first(live, key);
     match entry {

@@ -5,8 +5,8 @@ use mathlib.Core.List.{List}
 use native.Mathlib.Numerals.{add-one}
 use lib.ListN.{length, drop, getD, drop-of-length-le}
 use lib.Seq.{drop-cons}
-use Rattle.rows.specs.declared.Row.{Row}
-use Rattle.rows.specs.Kinds.{entryOf}
+use Rattle.kinds.specs.declared.Row.{Row}
+use Rattle.kinds.specs.Kinds.{entryOf}
 use Rattle.vocabulary.specs.declared.Deadline.the-variants.{None as NoEnd}
 use Rattle.entries.specs.Entries.{endOf, sooner, soonest}
 

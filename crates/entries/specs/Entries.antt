@@ -10,12 +10,12 @@ use Rattle.path.specs.declared.FoundDial.{FoundDial}
 use Rattle.path.specs.declared.FoundDial.the-variants.{At as DialAt, None as NoDial}
 use Rattle.path.specs.declared.FoundPath.{FoundPath}
 use Rattle.path.specs.declared.FoundPath.the-variants.{At as PathAt, None as NoPath}
-use Rattle.rows.specs.declared.Entry.{Entry}
-use Rattle.rows.specs.declared.Entry.the-variants.{Other, Dialed, Window, Path as PathEntry}
-use Rattle.rows.specs.declared.Row.{Row}
+use Rattle.kinds.specs.declared.Entry.{Entry}
+use Rattle.kinds.specs.declared.Entry.the-variants.{Other, Dialed, Window, Path as PathEntry}
+use Rattle.kinds.specs.declared.Row.{Row}
 use Rattle.rows.specs.declared.Found.{Found}
 use Rattle.rows.specs.declared.Found.the-variants.{At, Nothing}
-use Rattle.rows.specs.Kinds.{entryOf}
+use Rattle.kinds.specs.Kinds.{entryOf}
 use Rattle.rows.specs.Rows.{findIn}
 use Rattle.vocabulary.specs.declared.Deadline.{Deadline}
 use Rattle.vocabulary.specs.declared.Deadline.the-variants.{At as EndAt, None as NoEnd}

@@ -5,9 +5,9 @@ ghost use Rattle.rows.specs.declared.Table.the-variants.{Dials, Windows, Paths}
 ghost use Rattle.entries.specs.Entries.{dialOf, pathOf, endOf, dialAt, pathAt, endAt, windowOpen, punchEnd, sooner, soonest};
 use ids::ConnectionId;
 use ids::PeerId;
+use kinds::Entry;
 use path::FoundDial;
 use path::FoundPath;
-use rows::Entry;
 use rows::Found;
 use rows::Ledger;
 use rows::Table;
@@ -118,7 +118,7 @@ pub fn soonest_end(l: &Ledger) -> Deadline
     let mut end = Deadline::None;
     while 0 < i {
         i -= 1;
-        let entry = rows::entry_of(rows::row_at(l, Table::Windows, i));
+        let entry = kinds::entry_of(rows::row_at(l, Table::Windows, i));
         end = sooner_of(end_of(entry), end);
     }
     end

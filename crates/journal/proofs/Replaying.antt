@@ -20,8 +20,8 @@ use Rattle.journal_prints.proofs.Room.{short}
 use Rattle.ledger.specs.Ledger.{PathLedger, tablesOf, emptyLedger}
 use Rattle.lent.specs.Carried.{noFrame, noAims}
 use Rattle.lines.specs.Lines.{longest}
-use Rattle.journal_turns.specs.Turns.{Journal, stateOf, whole, newJournal}
-use Rattle.journal_turns.specs.declared.State.{State as Numbers}
+use Rattle.journal_calls.specs.Calls.{Journal, stateOf, whole, newJournal}
+use Rattle.journal_calls.specs.declared.State.{State as Numbers}
 use Rattle.journal_text.specs.Texts.{firstOf, isGood, opened, openingText}
 use Rattle.journal_text.specs.Journals.{cut, linesOf, linesText, opening, textOf, journalText}
 use Rattle.journal_text.proofs.Cutting.{lines as law, long-first}
@@ -39,12 +39,12 @@ zeros-long n h = omega (arith, length-replicate {A = ℕ} n 0)
 -- a first line that is not good prints its refusal, for which there is room
 refusing : (f : First) → isGood f ≡ false → (out : List ℕ) → 4 * room ≤ length out
     → take (behind out 0 (openingText f)) (printed out 0 (openingText f)) ≡ openingText f
-refusing (first.Settings handshake upgrade exchange punch interval payload private upgrades) g out h = apart g
+refusing (first.Settings s) g out h = apart g
 refusing first.Unknown g out h = fits out (openingText first.Unknown) (omega (arith, short (isRefused 0 UnknownLine (omega arith))))
 
 -- a good one prints nothing
 silent : (f : First) → isGood f ≡ true → openingText f ≡ []
-silent (first.Settings handshake upgrade exchange punch interval payload private upgrades) g = refl
+silent (first.Settings s) g = refl
 silent first.Unknown g = apart (sym g)
 
 -- and a line feed ends it

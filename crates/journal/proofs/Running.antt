@@ -14,14 +14,16 @@ use Rattle.line_program.specs.declared.Reading.{Reading}
 use Rattle.line_program.specs.Reads.{left, hasLine, feed, Read, NextLine}
 use Rattle.journal_prints.specs.Room.{room}
 use Rattle.lines.specs.Lines.{longest}
-use Rattle.journal_turns.specs.Turns.{Journal, Taken, lineTurn}
-use Rattle.journal_turns.specs.declared.State.{State as Numbers}
+use Rattle.journal_calls.specs.Calls.{Journal, Taken}
+use Rattle.journal_turns.specs.Turns.{lineTurn}
+use Rattle.journal_calls.specs.declared.State.{State as Numbers}
 use Rattle.journal_text.specs.Texts.{turnText, lineText}
 use Rattle.journal_text.specs.Journals.{cut, linesOf, linesText}
 use Rattle.journal_text.proofs.Cutting.{lines as law, long-same}
 use Rattle.line_program.proofs.GoingOn.{apart, had-none}
 use Rattle.journal.specs.declared.Step.{Step}
-use Rattle.journal.specs.Steps.{isLine, waitingAfter, handedAfter, State, state, answered, taking, taken, stepOf, stepText, put}
+use Rattle.line_program.specs.Waits.{isLine, waitingAfter, handedAfter}
+use Rattle.journal.specs.Steps.{State, state, answered, taking, taken, stepOf, stepText, put}
 use Rattle.journal.specs.Runs.{bytesOf, endless, Ran}
 
 abbrev pub Line : Type 0
@@ -214,7 +216,7 @@ module _ {before : State} {had mid line reply out : List ℕ} {j : Journal} {w :
 
     -- what is handed over behind it
     abbrev gives : List ℕ
-    gives = handedAfter (hasLine rest) (answered (state j reply out w []) l .out) (answered (state j reply out w []) l .waiting)
+    gives = handedAfter (4 * room) (hasLine rest) (answered (state j reply out w []) l .out) (answered (state j reply out w []) l .waiting)
 
     -- a state by what the line does
     abbrev by-turn : Taken → State
@@ -223,8 +225,8 @@ module _ {before : State} {had mid line reply out : List ℕ} {j : Journal} {w :
           journal = t .turn .journal;
           reply = t .reply;
           out = printed out w (turnText (t .turn));
-          waiting = waitingAfter (hasLine rest) (printed out w (turnText (t .turn))) (behind out w (turnText (t .turn)));
-          handed = [] ++ handedAfter (hasLine rest) (printed out w (turnText (t .turn))) (behind out w (turnText (t .turn)));
+          waiting = waitingAfter (4 * room) (hasLine rest) (printed out w (turnText (t .turn))) (behind out w (turnText (t .turn)));
+          handed = [] ++ handedAfter (4 * room) (hasLine rest) (printed out w (turnText (t .turn))) (behind out w (turnText (t .turn)));
         }
 
     stepped : stepOf (s .reading) block′ line′ j reply out w ≡ taking (state j reply out w []) l (hasLine rest)

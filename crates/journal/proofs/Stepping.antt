@@ -4,18 +4,19 @@ use mathlib.Core.List.{List, [], _++_, append-nil}
 use mathlib.Core.Bool.{Bool, true, false}
 use Prim.Native.Nat.{ℕ, _+_, _*_, _≤_}
 use native.Mathlib.Omega.{arith}
-use lib.Dec.{leb}
-use lib.ListN.{length, take, length-take}
-use borrow.Author.Tests.{leb-true}
+use lib.ListN.{length, take}
 use Rattle.prelude.specs.Choice.{pick}
 use Rattle.text.specs.Printed.{printed, behind}
 use Rattle.text.proofs.Printing.{length-kept, behind-within}
 use Rattle.line_program.specs.declared.Reading.{Reading}
 use Rattle.line_program.specs.Reads.{left, hasLine}
 use Rattle.journal_prints.specs.Room.{room}
-use Rattle.journal_turns.specs.Turns.{Journal, lineTurn}
+use Rattle.journal_calls.specs.Calls.{Journal}
+use Rattle.journal_turns.specs.Turns.{lineTurn}
 use Rattle.journal_text.specs.Texts.{lineText}
-use Rattle.journal.specs.Steps.{isLine, stays, waitingAfter, handedAfter, State, state, taking, stepOf, stepText, NothingWaits}
+use Rattle.line_program.specs.Waits.{isLine, waitingAfter, handedAfter}
+use Rattle.line_program.proofs.HandsOver.{all-there, room-kept}
+use Rattle.journal.specs.Steps.{State, state, taking, stepOf, stepText, NothingWaits}
 
 pub nothing-waits : NothingWaits
 unfolding taking waitingAfter
@@ -23,53 +24,6 @@ nothing-waits s l = refl
 
 length-printed : (o : List ℕ) (p : ℕ) (t : List ℕ) → length (printed o p t) ≡ length o
 length-printed o p t = length-kept {q = behind o p t} (record { bytes = refl; place = refl })
-
--- ---- what waits stays or is handed over
-
-module _ (follows : Bool) (out : List ℕ) (waiting : ℕ) where
-  -- none of it is lost
-  all-there : handedAfter follows out waiting ++ take (waitingAfter follows out waiting) out ≡ take waiting out
-  unfolding waitingAfter handedAfter
-  all-there = go (stays follows (length out) waiting)
-    where
-      go : (b : Bool) → pick b [] (take waiting out) ++ take (pick b waiting 0) out ≡ take waiting out
-      go true = refl
-      go false = append-nil (take waiting out)
-
-  -- what stays leaves room
-  room-kept : 4 * room ≤ length out → waitingAfter follows out waiting + 4 * room ≤ length out
-  unfolding waitingAfter
-  room-kept h = go follows (leb (waiting + 4 * room) (length out)) refl
-    where
-      go : (f b : Bool) → leb (waiting + 4 * room) (length out) ≡ b → pick (pick f b false) waiting 0 + 4 * room ≤ length out
-      go true true e = leb-true (waiting + 4 * room) (length out) e
-      go true false e = omega arith
-      go false b e = omega arith
-
-  -- the code's way: of no bytes none waits and none is handed over
-  pub kept-none : waiting ≡ 0 → waiting ≡ waitingAfter follows out waiting
-  unfolding waitingAfter
-  kept-none e = go (stays follows (length out) waiting)
-    where
-      go : (b : Bool) → waiting ≡ pick b waiting 0
-      go true = refl
-      go false = e
-
-  pub kept-all : {b : Bool} → b ≡ stays follows (length out) waiting → b ≡ true → waiting ≡ waitingAfter follows out waiting
-  unfolding waitingAfter
-  kept-all e f = rw (sym e ∙ f)
-
-  pub over-all : {b : Bool} → b ≡ stays follows (length out) waiting → b ≡ false → 0 ≡ waitingAfter follows out waiting
-  unfolding waitingAfter
-  over-all e f = rw (sym e ∙ f)
-
-  -- where some wait and do not stay some are handed over
-  pub over-some : {b v : Bool} → b ≡ stays follows (length out) waiting → b ≡ false → (waiting ≡ 0 → ⊥) → waiting ≤ length out
-      → handedAfter follows out waiting ≡ [] → v ≡ true
-  unfolding handedAfter
-  over-some e f n h z =
-      let t : take waiting out ≡ [] = sym (ap (λ (d : Bool). pick d [] (take waiting out)) (sym e ∙ f)) ∙ z in
-      absurd (n (omega (arith, ap length t, length-take waiting out)))
 
 -- ---- a step
 
@@ -81,7 +35,7 @@ module _ (s : Reading) (block line : List ℕ) (j : Journal) (reply out : List �
   follows = hasLine (left block (s .from) (s .until))
 
   pub step-made : {a : Journal} {b x : List ℕ} {w q : ℕ} {v : Bool} {R : Type 0} → isLine (s .failed) (s .ended) (s .used) ≡ true
-      → (w ≡ waitingAfter follows x q) × (q ≤ length x → handedAfter follows x q ≡ [] → v ≡ true)
+      → (w ≡ waitingAfter (4 * room) follows x q) × (q ≤ length x → handedAfter (4 * room) follows x q ≡ [] → v ≡ true)
       → (a ≡ lineTurn j reply (take (s .used) line) (s .ended) .turn .journal)
       × ((b ≡ lineTurn j reply (take (s .used) line) (s .ended) .reply)
       × ((x ≡ printed out waiting text) × ((q ≡ behind out waiting text) × (waiting + 4 * room ≤ length out → take q x ≡ take waiting out ++ text))))
@@ -96,9 +50,9 @@ module _ (s : Reading) (block line : List ℕ) (j : Journal) (reply out : List �
   step-made {x = x} {w = w} {q = q} {v = v} e f g r =
       let p : x ≡ printed out waiting text = g .1 .1 .0 in
       let k : q ≡ behind out waiting text = g .1 .1 .1 .0 in
-      let over : handedAfter follows x q ≡ handedAfter follows (printed out waiting text) (behind out waiting text) = rw (p, k) in
-      let there : waiting + 4 * room ≤ length out → handedAfter follows (printed out waiting text) (behind out waiting text) ++ take w x ≡ take waiting out ++ text =
-      λ h. ap (λ (d : List ℕ). d ++ take w x) (sym over) ∙ ap (λ (n : ℕ). handedAfter follows x q ++ take n x) (f .0) ∙ all-there follows x q ∙ g .1 .1 .1 .1 h
+      let over : handedAfter (4 * room) follows x q ≡ handedAfter (4 * room) follows (printed out waiting text) (behind out waiting text) = rw (p, k) in
+      let there : waiting + 4 * room ≤ length out → handedAfter (4 * room) follows (printed out waiting text) (behind out waiting text) ++ take w x ≡ take waiting out ++ text =
+      λ h. ap (λ (d : List ℕ). d ++ take w x) (sym over) ∙ ap (λ (n : ℕ). handedAfter (4 * room) follows x q ++ take n x) (f .0) ∙ all-there (4 * room) follows x q ∙ g .1 .1 .1 .1 h
       in
       let within : waiting + 4 * room ≤ length out → q ≤ length x =
       λ h. omega (arith, k, behind-within out waiting text (omega arith), ap length p, length-printed out waiting text)
@@ -123,7 +77,7 @@ module _ (s : Reading) (block line : List ℕ) (j : Journal) (reply out : List �
       omega (
         arith,
         length-printed out waiting text,
-        room-kept follows (printed out waiting text) (behind out waiting text) (omega (arith, length-printed out waiting text)),
+        room-kept (4 * room) follows (printed out waiting text) (behind out waiting text) (omega (arith, length-printed out waiting text)),
       )
   kept false h = h
 

@@ -9,8 +9,8 @@ use Rattle.prelude.specs.Choice.{pick}
 use Rattle.text.specs.Printed.{printed, behind}
 use Rattle.line_program.specs.Reads.{left, hasLine, feed}
 use Rattle.journal_lines.specs.declared.First.{First}
-use Rattle.journal_turns.specs.Turns.{Journal}
-use Rattle.journal_turns.specs.declared.State.{State as Numbers}
+use Rattle.journal_calls.specs.Calls.{Journal}
+use Rattle.journal_calls.specs.declared.State.{State as Numbers}
 use Rattle.journal_text.specs.Texts.{firstOf, isGood, opened, openingText}
 use Rattle.journal_text.specs.Journals.{linesOf, linesText, textOf, journalText}
 use Rattle.journal.specs.declared.Ending.{Ending}

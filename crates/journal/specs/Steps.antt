@@ -3,32 +3,16 @@ use Prim.Native.Nat.{ℕ, _+_, _*_}
 use mathlib.Core.Bool.{Bool, false}
 use mathlib.Core.Path.{_≡_}
 use mathlib.Core.List.{List, [], _∷_, _++_}
-use lib.Dec.{ltb, leb}
-use lib.ListN.{length, take}
-use Rattle.prelude.specs.Choice.{pick, both, either, no}
+use lib.ListN.{take}
+use Rattle.prelude.specs.Choice.{pick}
 use Rattle.text.specs.Printed.{printed, behind}
 use Rattle.line_program.specs.declared.Reading.{Reading}
 use Rattle.line_program.specs.Reads.{left, hasLine}
+use Rattle.line_program.specs.Waits.{isLine, waitingAfter, handedAfter}
 use Rattle.journal_prints.specs.Room.{room}
-use Rattle.journal_turns.specs.Turns.{Journal, lineTurn}
+use Rattle.journal_calls.specs.Calls.{Journal}
+use Rattle.journal_turns.specs.Turns.{lineTurn}
 use Rattle.journal_text.specs.Texts.{lineText}
-
--- whether a line was read: a line feed ended it, or some bytes stand before the input's end
-abbrev pub isLine : Bool → Bool → ℕ → Bool
-isLine failed ended used = both (no failed) (either ended (ltb 0 used))
-
--- Whether bytes that wait in an output buffer of so many bytes stay there: a whole line follows in the block, so that the next step reads
--- none, and they leave room for its four output lines.
-abbrev pub stays : Bool → ℕ → ℕ → Bool
-stays follows size waiting = both follows (leb (waiting + 4 * room) size)
-
--- the bytes that wait from then on: all or none
-unfoldable pub waitingAfter : Bool → List ℕ → ℕ → ℕ
-waitingAfter follows out waiting = pick (stays follows (length out) waiting) waiting 0
-
--- what does not stay is handed over to be written
-unfoldable pub handedAfter : Bool → List ℕ → ℕ → List ℕ
-handedAfter follows out waiting = pick (stays follows (length out) waiting) [] (take waiting out)
 
 -- the journal, the reply buffer, the output buffer, how many of its bytes wait, and the bytes that were handed over before them
 pub record State : Type 0 where
@@ -59,8 +43,8 @@ taking s l follows =
       journal = answered s l .journal;
       reply = answered s l .reply;
       out = answered s l .out;
-      waiting = waitingAfter follows (answered s l .out) (answered s l .waiting);
-      handed = s .handed ++ handedAfter follows (answered s l .out) (answered s l .waiting);
+      waiting = waitingAfter (4 * room) follows (answered s l .out) (answered s l .waiting);
+      handed = s .handed ++ handedAfter (4 * room) follows (answered s l .out) (answered s l .waiting);
     }
 
 -- Lines are taken, each on what the one before it left. Whether a whole line follows each in the block is said beside them; where that

@@ -3,22 +3,21 @@
 ghost use mathlib.Core.Path.{_≡_};
 ghost use mathlib.Core.Bool.{true};
 ghost use Prim.Native.Nat.{_+_, _*_, _≤_};
-ghost use lib.Dec.{leb};
 ghost use lib.ListN.{length, take, replicate};
 ghost use mathlib.Core.List.{[], _++_};
 ghost use Rattle.rows.specs.Words.{ledgerWords};
 ghost use Rattle.wire.specs.Frame.{maxFrameSize};
-ghost use Rattle.line_program.specs.Reads.{left, hasLine, NextLine};
+ghost use Rattle.line_program.specs.Reads.{left, NextLine};
 ghost use Rattle.journal_prints.specs.Room.{room};
 ghost use Rattle.ledger.specs.Ledger.{tablesOf, emptyLedger};
 ghost use Rattle.lent.specs.Carried.{noFrame, noAims};
-ghost use Rattle.journal_turns.specs.declared.State.{State as Numbers};
+ghost use Rattle.journal_calls.specs.declared.State.{State as Numbers};
 ghost use Rattle.lines.specs.Lines.{longest};
-ghost use Rattle.journal_turns.specs.Turns.{whole};
-ghost use Rattle.journal.specs.Steps.{isLine, stays, waitingAfter, handedAfter, state, stepOf, stepText};
+ghost use Rattle.journal_calls.specs.Calls.{whole};
+ghost use Rattle.journal.specs.Steps.{state, stepOf, stepText};
 ghost use Rattle.journal.specs.Runs.{Ran, Replayed};
 use frames::FrameBytes;
-use journal_turns::State;
+use journal_calls::State;
 use ledger::Ledger;
 use lent::TargetBytes;
 use line_program::Reading;
@@ -26,77 +25,12 @@ use line_program::Reading;
 // Room for the output lines of one line: four of 497 bytes.
 const ROOM: usize = 1988;
 
-// Output that waits, from the buffer's first byte on, and whether all before it was written.
-pub struct Waiting {
-    pub bytes: usize,
-    pub written: bool,
-}
-
 // Where the input stands behind a line, the journal, and the output that waits.
 pub struct Step {
     pub reading: Reading,
     pub state: State,
     pub waiting: usize,
     pub written: bool,
-}
-
-// Whether a line was read, and not the input's end or a failure. An empty line without a line feed is none.
-fn is_line(failed: bool, ended: bool, used: usize) -> bool
-    ensures { λ r. ⌜ r ≡ isLine failed ended used ⌝ }
-{
-    if failed {
-        return false;
-    }
-    if ended {
-        return true;
-    }
-    0 < used
-}
-
-fn has_room(size: usize, waiting: usize) -> bool
-    ensures { λ r. ⌜ r ≡ leb (waiting + 4 * room) size ⌝ }
-{
-    if size < waiting {
-        return false;
-    }
-    if ROOM <= size - waiting {
-        return true;
-    }
-    false
-}
-
-// Whether what waits may stay: the next line needs no read, and there is room for what it prints.
-fn may_stay(block: &[u8], from: usize, until: usize, size: usize, waiting: usize) -> bool
-    ensures { λ r. ⌜ r ≡ stays (hasLine (left (now (block .entry)) from until)) size waiting ⌝ }
-{
-    if line_program::has_line(block, from, until) {
-        return has_room(size, waiting);
-    }
-    false
-}
-
-// Writes what waits unless it may stay. Where nothing waits nothing is written, so that nothing fails.
-fn hand_over(block: &[u8], from: usize, until: usize, out: &[u8], waiting: usize) -> Waiting
-    ensures bytes { λ r. ⌜ r .bytes ≡ waitingAfter (hasLine (left (now (block .entry)) from until)) (now (out .entry)) waiting ⌝ }
-    ensures written { λ r. ⌜ (waiting ≤ length (now (out .entry)) → handedAfter (hasLine (left (now (block .entry)) from until)) (now (out .entry)) waiting ≡ [] → r .written ≡ true) ⌝ }
-{
-    if waiting == 0 {
-        return Waiting {
-            bytes: waiting,
-            written: true,
-        };
-    }
-    if may_stay(block, from, until, out.len(), waiting) {
-        return Waiting {
-            bytes: waiting,
-            written: true,
-        };
-    }
-    let written = line_program::print(out, waiting);
-    Waiting {
-        bytes: 0,
-        written: written,
-    }
 }
 
 // Reads the next line, gathers what it prints, and hands over what waits before the next read.
@@ -123,7 +57,7 @@ fn take_step(
     ensures read { λ r. ⌜ NextLine (now (line .entry)) (left (now (block .entry)) from until) (now (block .exit)) (now (line .exit)) (r .reading) ⌝ }
 {
     let s = line_program::next_line(block, line, from, until);
-    if is_line(s.failed, s.ended, s.used) {
+    if line_program::is_line(s.failed, s.ended, s.used) {
         let used = s.used;
         let a = journal_text::answer_line(
             j,
@@ -138,7 +72,7 @@ fn take_step(
             waiting,
         );
         let next = a.state;
-        let w = hand_over(block, s.from, s.until, out, a.next);
+        let w = line_program::hand_over(block, s.from, s.until, out, a.next, ROOM);
         return Step {
             reading: s,
             state: next,

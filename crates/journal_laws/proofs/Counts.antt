@@ -19,7 +19,8 @@ use Rattle.lent.specs.Calls.{upOf, tickOf}
 use Rattle.inbound.specs.Circuits.{decidedAt}
 use Rattle.journal_lines.specs.declared.Line.{Line}
 use Rattle.journal_lines.specs.declared.Line.the-variants.{Start, Up, Input, Tick, Wrote, Down, Dial, Forget, Attribute, Unknown}
-use Rattle.journal_turns.specs.Turns.{Journal, started, silent, refused, naming, Leaves, settled, digitsBytes, hostOf, inputOf, startedBy, startTurn, upTurn, inputTurn, tickTurn, wroteTurn, downTurn, dialedBy, dialTurn, forgetTurn, claimFor, namedBy, attributeTurn, Taken, apart, needsStart, callTurn, turnOf, counted, read, lineTurn}
+use Rattle.journal_calls.specs.Calls.{Journal, started, silent, refused, naming, Leaves, settled, startedBy, startTurn, upTurn, inputTurn, tickTurn, wroteTurn, downTurn, dialedBy, dialTurn, forgetTurn, claimFor, namedBy, attributeTurn, Taken, counted}
+use Rattle.journal_turns.specs.Turns.{digitsBytes, hostOf, apart, needsStart, callTurn, turnOf, read, lineTurn}
 use Rattle.journal_laws.specs.Laws.{EveryLineCounts}
 
 module _ (j : Journal) where
@@ -52,7 +53,7 @@ module _ (j : Journal) where
       settled-n d _ (d .outcome)
   call-n line reply (Input at stream k bytes l o pending own) =
       let d : Decision =
-      decidedAt (j .circuit) (j .ledger) (hostOf at l o) (digitsBytes line own) reply stream (inputOf k) (digitsBytes line bytes) pending in
+      decidedAt (j .circuit) (j .ledger) (hostOf at l o) (digitsBytes line own) reply stream k (digitsBytes line bytes) pending in
       settled-n d _ (d .outcome)
   call-n line reply (Tick at l o own) =
       let d : Decision = tickOf (j .circuit .core) (hostOf at l o) (digitsBytes line own) in

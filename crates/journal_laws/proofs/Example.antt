@@ -6,9 +6,9 @@ use Rattle.time.specs.Time.{plus}
 use Rattle.text.specs.Decimal.{digitsFrom, decimalOf, digitsOf}
 use Rattle.text.specs.Hexadecimal.{isHexadecimal, bytesOf, hexadecimal}
 use Rattle.text.specs.Words.{ascii, begins, isWord, lengthBefore}
-use Rattle.fields.specs.Values.{maybeOf, pairOf}
-use Rattle.fields.specs.Fields.{valueAt, numberAt, choiceAt, maybeAt, pairAt, bytesAt}
-use Rattle.fields.specs.Line.{number, choice, maybe, pair, bytes, ends}
+use Rattle.forms.specs.Forms as forms
+use Rattle.forms.specs.Texts.{text, textFrom, valueText}
+use Rattle.forms.specs.Tables.{said}
 use Rattle.budget.specs.Budget.{armed, mayBegin, oneMore, begun, withExchange, ended, windowEnd, upgradeDue, dueAt, nextDeadline}
 use Rattle.schedule.specs.Instants.{halfOf, startOf, upto, instants, countTo}
 use Rattle.schedule.specs.Schedule.{ahead, without, timesOf, dueOf, openedOf}
@@ -43,14 +43,14 @@ use Rattle.journal_text.specs.Journals.{cut, linesText, opening, journalText}
 use Rattle.journal_laws.specs.Example.{input, printed}
 use Rattle.schedule.specs.Schedule as schedule
 use Rattle.journal_lines.specs.Lines as line
-use Rattle.journal_lines.specs.Parts as part
 use Rattle.journal_effects.specs.Effects as effects
+use Rattle.journal_calls.specs.Calls as calls
 use Rattle.journal_turns.specs.Turns as turns
 
 pub example : journalText input ≡ printed
-unfolding plus digitsFrom decimalOf digitsOf isHexadecimal bytesOf hexadecimal begins isWord lengthBefore maybeOf pairOf valueAt numberAt choiceAt maybeAt pairAt bytesAt number choice maybe pair bytes ends armed mayBegin oneMore begun withExchange ended windowEnd upgradeDue dueAt nextDeadline halfOf startOf upto instants count countTo ahead without timesOf dueOf openedOf schedule.windowOf frameFrom valueOf spanOf varintOf groups along listed fieldOf scan addressFields gathering syncFrame ownConnect bigEndian hasForm parsed globalUnicast4 mayBeTarget such selected bounded room once own emptyLedger refusesPunches inPhase exchangingOf punchingOf eventOf silence resetOf burstOf sendingOf decidedOf quietOf inUse checkOf isLive openRound tickPunching announced connectedOf upAt closing inExchange writeOf firstInput roundTrip windowOf openWindow exchangeInput awaitsIn broughtBy targetsFrom peekedOf lengthOf sentAfter ledgerAfter opens connectAfter framedBy targetsAfter begunOf startedOf upIn upOf tickIn tickOf hearing inputIn inputOf bufferAfter line.timed line.settled line.heard line.answered line.connected line.settingsOf line.startOf line.upOf line.inputLine line.tickOf line.lineOf part.timesOf part.othersAt part.kindAt part.inputOf part.kinded part.inputAt part.answersAt part.connectionAt withCommas targetsText effects.linesText effects.noEffect effects.effectsText turns.newJournal turns.counted turns.started turns.noEffects turns.silent turns.effectsOf turns.hostOf turns.startTurn turns.upTurn turns.inputTurn turns.tickTurn turns.turnOf turns.read turns.lineTurn firstOf opened lineText cut linesText opening journalText input
+unfolding plus digitsFrom decimalOf digitsOf isHexadecimal bytesOf hexadecimal begins isWord lengthBefore forms.kindOf forms.split forms.onFirst forms.maybeWords forms.pairWords forms.whichWord forms.wordsOf forms.readFrom forms.readForm text textFrom valueText said armed mayBegin oneMore begun withExchange ended windowEnd upgradeDue dueAt nextDeadline halfOf startOf upto instants count countTo ahead without timesOf dueOf openedOf schedule.windowOf frameFrom valueOf spanOf varintOf groups along listed fieldOf scan addressFields gathering syncFrame ownConnect bigEndian hasForm parsed globalUnicast4 mayBeTarget such selected bounded room once own emptyLedger refusesPunches inPhase exchangingOf punchingOf eventOf silence resetOf burstOf sendingOf decidedOf quietOf inUse checkOf isLive openRound tickPunching announced connectedOf upAt closing inExchange writeOf firstInput roundTrip windowOf openWindow exchangeInput awaitsIn broughtBy targetsFrom peekedOf lengthOf sentAfter ledgerAfter opens connectAfter framedBy targetsAfter begunOf startedOf upIn upOf tickIn tickOf hearing inputIn inputOf bufferAfter line.settingsOf line.lineOf withCommas targetsText effects.linesText effects.noEffect effects.effectsText calls.newJournal calls.counted calls.started calls.noEffects calls.silent calls.effectsOf turns.hostOf calls.startTurn calls.upTurn calls.inputTurn calls.tickTurn turns.turnOf turns.read turns.lineTurn firstOf opened lineText cut linesText opening journalText input
 example = refl
 
 pub nothing : journalText [] ≡ ascii "n=0 out=refused why=11\n"
-unfolding digitsOf firstOf cut opening journalText
+unfolding digitsOf forms.kindOf text textFrom valueText firstOf cut opening journalText
 nothing = refl

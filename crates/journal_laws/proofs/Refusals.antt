@@ -24,8 +24,9 @@ use Rattle.history.specs.Calls as history
 use Rattle.history.proofs.Refusals.{refused-changes-nothing}
 use Rattle.journal_lines.specs.declared.Line.{Line}
 use Rattle.journal_lines.specs.declared.Line.the-variants.{Start, Up, Input, Tick, Wrote, Down, Dial, Forget, Attribute, Unknown}
-use Rattle.journal_turns.specs.Turns.{Journal, silent, refused, naming, Leaves, settled, digitsBytes, hostOf, inputOf, startedBy, startTurn, upTurn, inputTurn, tickTurn, wroteTurn, downTurn, dialedBy, dialTurn, forgetTurn, claimFor, namedBy, attributeTurn, Taken, apart, needsStart, callTurn, turnOf, counted, read, lineTurn}
-use Rattle.journal_turns.specs.declared.Said.the-variants as said
+use Rattle.journal_calls.specs.Calls.{Journal, silent, refused, naming, Leaves, settled, startedBy, startTurn, upTurn, inputTurn, tickTurn, wroteTurn, downTurn, dialedBy, dialTurn, forgetTurn, claimFor, namedBy, attributeTurn, Taken, counted}
+use Rattle.journal_turns.specs.Turns.{digitsBytes, hostOf, apart, needsStart, callTurn, turnOf, read, lineTurn}
+use Rattle.journal_calls.specs.declared.Said.the-variants as said
 use Rattle.journal_laws.specs.Laws.{RefusedChangesNothing}
 
 abbrev Left : Journal → List ℕ → Taken → Type 0
@@ -73,10 +74,10 @@ module _ (j : Journal) (why : Refusal) where
       (settled-left d _ (d .outcome) e, refl)
   call-left line reply (Input at stream k bytes l o pending own) e =
       let h : Host = hostOf at l o in
-      let d : Decision = decidedAt (j .circuit) (j .ledger) h (digitsBytes line own) reply stream (inputOf k) (digitsBytes line bytes) pending in (
+      let d : Decision = decidedAt (j .circuit) (j .ledger) h (digitsBytes line own) reply stream k (digitsBytes line bytes) pending in (
         settled-left d _ (d .outcome) e,
         refused-changes-nothing (j .circuit)
-            (history.input (j .ledger) reply h (digitsBytes line own) stream (inputOf k) (digitsBytes line bytes) pending)
+            (history.input (j .ledger) reply h (digitsBytes line own) stream k (digitsBytes line bytes) pending)
             (settled-refused d _ (d .outcome) e)
             .lent
             .1,

@@ -8,7 +8,7 @@ use Rattle.path.specs.declared.Path.the-variants.{Relayed, Punched, Direct}
 use Rattle.path.specs.declared.Owner.the-variants.{Attempt, Inbound, None}
 use Rattle.path.specs.declared.FoundPath.the-variants as found
 use Rattle.journal_effects.specs.declared.Effects.{Effects}
-use Rattle.journal_turns.specs.declared.Said.the-variants.{Attributed}
+use Rattle.journal_calls.specs.declared.Said.the-variants.{Attributed}
 use Rattle.journal_text.specs.Texts.{saidText}
 
 pub record NamesInWords (e : Effects) (sent aims : List ℕ) (relay : PeerId) : Type 0 where

@@ -1,2 +1,2 @@
-pub mod Chain
-pub mod Texts
+pub mod Made
+pub mod Back

@@ -1,3 +1,3 @@
-pub mod Parts
+pub mod Forms
 pub mod Lines
 pub mod Texts

@@ -1,137 +1,110 @@
--- A journal's lines (RULES.md, sections 12.4 and 12.5): each line's keys in their order, and nothing behind the last.
--- A line of another form is `Unknown`.
+-- What a journal's lines say (RULES.md, sections 12.4 and 12.5), from the words that their values are handed out as (`wordsOf` of forms):
+-- a number v is v; a number or none is 1 v, or 0 0; a pair or none is 1 a b, or 0 0 0; a word its place in the choice; bytes the start and
+-- the end of their digits in the line.
 use Prim.Native.Nat.{ℕ}
-use mathlib.Core.List.{List}
+use mathlib.Core.List.{List, [], _∷_}
 use mathlib.Core.Bool.{Bool}
-use Rattle.prelude.specs.Choice.{pick}
-use Rattle.text.specs.Words.{ascii, begins}
-use Rattle.fields.specs.Fields.{numberAt, maybeAt, pairAt, bytesAt}
-use Rattle.fields.specs.Line.{number, maybe, pair, bytes, ends}
-use Rattle.fields.specs.declared.Maybe.{Maybe}
-use Rattle.fields.specs.declared.Pair.{Pair}
-use Rattle.ids.specs.declared.PeerId.{PeerId}
-use Rattle.ids.specs.declared.ConnectionId.{ConnectionId}
-use Rattle.journal_lines.specs.Parts.{timesOf, othersAt, inputAt, answersAt, connectionAt}
-use Rattle.journal_lines.specs.declared.Digits.{Digits}
-use Rattle.journal_lines.specs.declared.Kind.{Kind}
-use Rattle.journal_lines.specs.declared.InputField.{InputField}
-use Rattle.journal_lines.specs.declared.Times.{Times}
-use Rattle.journal_lines.specs.declared.Others.{Others}
-use Rattle.journal_lines.specs.declared.Answers.{Answers}
-use Rattle.journal_lines.specs.declared.Connection.{Connection}
+use lib.ListN.{getD}
+use lib.Dec.{eqb}
+use Rattle.prelude.specs.Choice.{pick, either}
+use Rattle.forms.specs.Forms.{readForm}
+use Rattle.forms.specs.Tables.{Entry, tried, said}
+use Rattle.vocabulary.specs.declared.Live.{Live}
+use Rattle.vocabulary.specs.declared.Live.the-variants as live
+use Rattle.vocabulary.specs.declared.Offer.{Offer}
+use Rattle.vocabulary.specs.declared.Offer.the-variants as offer
+use Rattle.vocabulary.specs.declared.StreamInput.{StreamInput}
+use Rattle.vocabulary.specs.declared.StreamInput.the-variants as input
+use Rattle.journal_lines.specs.Forms.{settingsForm, startForm, upForm, inputForm, tickForm, wroteForm, downForm, dialForm, forgetForm, attributeForm}
 use Rattle.journal_lines.specs.declared.First.{First}
+use Rattle.journal_lines.specs.declared.First.the-variants as first
 use Rattle.journal_lines.specs.declared.Line.{Line}
 use Rattle.journal_lines.specs.declared.Line.the-variants.{Start, Up, Input, Tick, Wrote, Down, Dial, Forget, Attribute, Unknown}
-use Rattle.journal_lines.specs.declared.InputField.the-variants as inputField
-use Rattle.journal_lines.specs.declared.Times.the-variants as times
-use Rattle.journal_lines.specs.declared.Others.the-variants as others
-use Rattle.journal_lines.specs.declared.Answers.the-variants as answers
-use Rattle.journal_lines.specs.declared.Connection.the-variants as connection
-use Rattle.journal_lines.specs.declared.First.the-variants as first
 
--- ---- a part that several keys make up, and what the line means behind it; a line with a bad part is unknown
+-- ---- values
 
-unfoldable pub timed : Times → (ℕ → ℕ → ℕ → ℕ → ℕ → First) → First
-timed (times.At handshake upgrade exchange punch next) rest = rest handshake upgrade exchange punch next
-timed times.Bad rest = first.Unknown
+abbrev pub word : List ℕ → ℕ → ℕ
+word ws i = getD ws i 0
 
-unfoldable pub settled : Others → (ℕ → ℕ → Bool → Bool → First) → First
-settled (others.At interval payload private upgrades) rest = rest interval payload private upgrades
-settled others.Bad rest = first.Unknown
+-- whether the second of two words was chosen
+abbrev pub isSecond : ℕ → Bool
+isSecond k = eqb k 1
 
-unfoldable pub heard : InputField → (Kind → Digits → ℕ → Line) → Line
-heard (inputField.At k found next) rest = rest k found next
-heard inputField.Bad rest = Unknown
+abbrev pub liveOf : ℕ → ℕ → Live
+liveOf given conn = pick (eqb given 0) live.Nothing (live.On (record { 0 = conn }))
 
-unfoldable pub answered : Answers → (Maybe → Pair → Bool → Digits → Line) → Line
-answered (answers.At live offer pending own) rest = rest live offer pending own
-answered answers.Bad rest = Unknown
+abbrev pub offerOf : ℕ → ℕ → ℕ → Offer
+offerOf given conn stream = pick (eqb given 0) offer.Nothing (offer.Stream (record { 0 = conn }) (record { 0 = stream }))
 
-unfoldable pub connected : Connection → (ℕ → PeerId → ConnectionId → Bool → ℕ → Line) → Line
-connected (connection.At at peer conn circuit next) rest = rest at peer conn circuit next
-connected connection.Bad rest = Unknown
+-- ready, data, end, closed
+abbrev pub kindOf : ℕ → StreamInput
+kindOf k = pick (eqb k 0) input.Ready (pick (eqb k 1) input.Data (pick (eqb k 2) input.RemoteWriteClosed input.Closed))
 
 -- ---- the first line
 
+abbrev pub settingsIn : List ℕ → First
+settingsIn ws =
+    first.Settings
+    (record {
+      handshake = word ws 0;
+      upgrade = word ws 1;
+      exchange = word ws 2;
+      punch = word ws 3;
+      interval = word ws 4;
+      payload = word ws 5;
+      private = isSecond (word ws 6);
+      upgrades = isSecond (word ws 7);
+    })
+
 unfoldable pub settingsOf : List ℕ → First
-settingsOf line =
-    timed (timesOf line) λ handshake upgrade exchange punch p.
-    settled (othersAt line p) λ interval payload private upgrades.
-    first.Settings handshake upgrade exchange punch interval payload private upgrades
+settingsOf line = tried (readForm settingsForm line) settingsIn first.Unknown
 
 -- ---- the calls
 
-unfoldable pub startOf : List ℕ → Line
-startOf line =
-    number Unknown (numberAt line (ascii "do=start at=") 0) λ at p.
-    number Unknown (numberAt line (ascii " source=") p) λ source q.
-    number Unknown (numberAt line (ascii " relay=") q) λ relay r.
-    number Unknown (numberAt line (ascii " circuit=") r) λ circuit s.
-    ends Unknown line s (Start at (record { 0 = source }) (record { 0 = relay }) (record { 0 = circuit }))
+abbrev pub startOf : List ℕ → Line
+startOf ws = Start (word ws 0) (record { 0 = word ws 1 }) (record { 0 = word ws 2 }) (record { 0 = word ws 3 })
 
-unfoldable pub upOf : List ℕ → Line
-upOf line =
-    connected (connectionAt line (ascii "do=up at=")) λ at peer conn circuit p.
-    answered (answersAt line p) λ live offer pending own.
-    Up at peer conn circuit live offer pending own
+abbrev pub upOf : List ℕ → Line
+upOf ws =
+    Up (word ws 0) (record { 0 = word ws 1 }) (record { 0 = word ws 2 }) (isSecond (word ws 3)) (liveOf (word ws 4) (word ws 5))
+    (offerOf (word ws 6) (word ws 7) (word ws 8)) (isSecond (word ws 9)) (record { start = word ws 10; end = word ws 11 })
 
-unfoldable pub inputLine : List ℕ → Line
-inputLine line =
-    number Unknown (numberAt line (ascii "do=input at=") 0) λ at p.
-    number Unknown (numberAt line (ascii " stream=") p) λ stream q.
-    heard (inputAt line q) λ k found r.
-    answered (answersAt line r) λ live offer pending own.
-    Input at (record { 0 = stream }) k found live offer pending own
+-- only the kind data, the second, may have bytes: none end where they start
+abbrev pub mayHaveBytes : List ℕ → Bool
+mayHaveBytes ws = either (isSecond (word ws 2)) (eqb (word ws 3) (word ws 4))
 
-unfoldable pub tickOf : List ℕ → Line
-tickOf line =
-    number Unknown (numberAt line (ascii "do=tick at=") 0) λ at p.
-    maybe Unknown (maybeAt line (ascii " live=") p) λ live q.
-    pair Unknown (pairAt line (ascii " offer=") q) λ offer r.
-    bytes Unknown (bytesAt line (ascii " own=") r) λ start end s.
-    ends Unknown line s (Tick at live offer (record { start = start; end = end }))
+abbrev pub inputOf : List ℕ → Line
+inputOf ws =
+    pick (mayHaveBytes ws)
+    (Input (word ws 0) (record { 0 = word ws 1 }) (kindOf (word ws 2)) (record { start = word ws 3; end = word ws 4 }) (liveOf (word ws 5) (word ws 6))
+    (offerOf (word ws 7) (word ws 8) (word ws 9)) (isSecond (word ws 10)) (record { start = word ws 11; end = word ws 12 })) Unknown
 
-unfoldable pub wroteOf : List ℕ → Line
-wroteOf line =
-    number Unknown (numberAt line (ascii "do=wrote at=") 0) λ at p.
-    number Unknown (numberAt line (ascii " conn=") p) λ conn q.
-    number Unknown (numberAt line (ascii " stream=") q) λ stream r.
-    ends Unknown line r (Wrote at (record { 0 = conn }) (record { 0 = stream }))
+abbrev pub tickOf : List ℕ → Line
+tickOf ws =
+    Tick (word ws 0) (liveOf (word ws 1) (word ws 2)) (offerOf (word ws 3) (word ws 4) (word ws 5)) (record { start = word ws 6; end = word ws 7 })
 
-unfoldable pub downOf : List ℕ → Line
-downOf line =
-    number Unknown (numberAt line (ascii "do=down at=") 0) λ at p.
-    number Unknown (numberAt line (ascii " peer=") p) λ peer q.
-    number Unknown (numberAt line (ascii " conn=") q) λ conn r.
-    ends Unknown line r (Down at (record { 0 = peer }) (record { 0 = conn }))
+abbrev pub wroteOf : List ℕ → Line
+wroteOf ws = Wrote (word ws 0) (record { 0 = word ws 1 }) (record { 0 = word ws 2 })
 
-unfoldable pub dialOf : List ℕ → Line
-dialOf line =
-    number Unknown (numberAt line (ascii "do=dial at=") 0) λ at p.
-    number Unknown (numberAt line (ascii " conn=") p) λ conn q.
-    number Unknown (numberAt line (ascii " token=") q) λ token r.
-    number Unknown (numberAt line (ascii " id=") r) λ id s.
-    ends Unknown line s (Dial at (record { 0 = conn }) (record { 0 = token }) (record { 0 = id }))
+abbrev pub downOf : List ℕ → Line
+downOf ws = Down (word ws 0) (record { 0 = word ws 1 }) (record { 0 = word ws 2 })
 
-unfoldable pub forgetOf : List ℕ → Line
-forgetOf line =
-    number Unknown (numberAt line (ascii "do=forget at=") 0) λ at p.
-    number Unknown (numberAt line (ascii " conn=") p) λ conn q.
-    ends Unknown line q (Forget at (record { 0 = conn }))
+abbrev pub dialOf : List ℕ → Line
+dialOf ws = Dial (word ws 0) (record { 0 = word ws 1 }) (record { 0 = word ws 2 }) (record { 0 = word ws 3 })
 
-unfoldable pub attributeOf : List ℕ → Line
-attributeOf line =
-    connected (connectionAt line (ascii "do=attribute at=")) λ at peer conn circuit p.
-    ends Unknown line p (Attribute at peer conn circuit)
+abbrev pub forgetOf : List ℕ → Line
+forgetOf ws = Forget (word ws 0) (record { 0 = word ws 1 })
 
--- which call a line is
+abbrev pub attributeOf : List ℕ → Line
+attributeOf ws = Attribute (word ws 0) (record { 0 = word ws 1 }) (record { 0 = word ws 2 }) (isSecond (word ws 3))
+
+abbrev pub calls : List (Entry Line)
+calls =
+    record { form = startForm; means = startOf } ∷ record { form = upForm; means = upOf } ∷ record { form = inputForm; means = inputOf }
+    ∷ record { form = tickForm; means = tickOf } ∷ record { form = wroteForm; means = wroteOf } ∷ record { form = downForm; means = downOf }
+    ∷ record { form = dialForm; means = dialOf } ∷ record { form = forgetForm; means = forgetOf }
+    ∷ record { form = attributeForm; means = attributeOf } ∷ []
+
+-- a line of none of these forms is unknown
 unfoldable pub lineOf : List ℕ → Line
-lineOf line =
-    pick (begins (ascii "do=start ") line) (startOf line)
-    (pick (begins (ascii "do=up ") line) (upOf line)
-    (pick (begins (ascii "do=input ") line) (inputLine line)
-    (pick (begins (ascii "do=tick ") line) (tickOf line)
-    (pick (begins (ascii "do=wrote ") line) (wroteOf line)
-    (pick (begins (ascii "do=down ") line) (downOf line)
-    (pick (begins (ascii "do=dial ") line) (dialOf line)
-    (pick (begins (ascii "do=forget ") line) (forgetOf line) (attributeOf line))))))))
+lineOf line = said Unknown calls line

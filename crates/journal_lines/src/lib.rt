@@ -1,21 +1,22 @@
-// One line of a journal, without its line feed: the settings, or a call.
-use fields::BytesField;
-use fields::ChoiceField;
-use fields::Maybe;
-use fields::MaybeField;
-use fields::NumberField;
-use fields::Pair;
-use fields::PairField;
-use fields::Span;
+// One line of a journal, without its line feed: the settings, or a call. Each is read by its form (RULES.md, sections 12.4 and 12.5).
 use ids::ConnectId;
 use ids::ConnectionId;
 use ids::NatToken;
 use ids::PeerId;
 use ids::StreamId;
+use vocabulary::Live;
+use vocabulary::Offer;
+use vocabulary::Settings;
+use vocabulary::StreamInput;
 ghost use mathlib.Core.Path.{_≡_};
-ghost use Rattle.journal_lines.specs.Parts.{timesOf, othersAt, kindAt, inputOf, inputAt, answersAt, connectionAt};
-ghost use Rattle.journal_lines.specs.Lines.{settingsOf, startOf, upOf, inputLine, tickOf, wroteOf, downOf, dialOf, forgetOf, attributeOf, lineOf};
-ghost use Rattle.journal_lines.specs.Texts.{StartIsRead, WroteIsRead, DownIsRead, DialIsRead, ForgetIsRead};
+ghost use mathlib.Core.List.{[]};
+ghost use lib.ListN.{length};
+ghost use lib.Dec.{eqb};
+ghost use Rattle.prelude.specs.Choice.{either};
+ghost use Rattle.forms.specs.Tables.{ShareNoLine};
+ghost use Rattle.journal_lines.specs.Forms.{forms};
+ghost use Rattle.journal_lines.specs.Lines.{isSecond, liveOf, offerOf, kindOf, settingsIn, startOf, upOf, inputOf, tickOf, wroteOf, downOf, dialOf, forgetOf, attributeOf, settingsOf, lineOf};
+ghost use Rattle.journal_lines.specs.Texts.{SettingsAreRead, StartIsRead, UpIsRead, InputIsRead, TickIsRead, WroteIsRead, DownIsRead, DialIsRead, ForgetIsRead, AttributeIsRead};
 
 // Where hexadecimal digits stand in the line; none for `-`.
 pub struct Digits {
@@ -23,24 +24,8 @@ pub struct Digits {
     pub end: usize,
 }
 
-pub enum Kind {
-    Ready,
-    Data,
-    End,
-    Closed,
-}
-
 pub enum First {
-    Settings {
-        handshake: u64,
-        upgrade: u64,
-        exchange: u64,
-        punch: u64,
-        interval: u64,
-        payload: u64,
-        private: bool,
-        upgrades: bool,
-    },
+    Settings(Settings),
     Unknown,
 }
 
@@ -57,25 +42,25 @@ pub enum Line {
         peer: PeerId,
         conn: ConnectionId,
         circuit: bool,
-        live: Maybe,
-        offer: Pair,
+        live: Live,
+        offer: Offer,
         pending: bool,
         own: Digits,
     },
     Input {
         at: u64,
         stream: StreamId,
-        kind: Kind,
+        kind: StreamInput,
         bytes: Digits,
-        live: Maybe,
-        offer: Pair,
+        live: Live,
+        offer: Offer,
         pending: bool,
         own: Digits,
     },
     Tick {
         at: u64,
-        live: Maybe,
-        offer: Pair,
+        live: Live,
+        offer: Offer,
         own: Digits,
     },
     Wrote {
@@ -107,670 +92,287 @@ pub enum Line {
     Unknown,
 }
 
+// ---- values, from the words that a form hands out
+
+// Room for the words of any of the forms: an input has 13.
+type Words = [u64; 16];
+
+fn size(words: &[u64]) -> usize
+    ensures { λ r. ⌜ r ≡ length (now (words .entry)) ⌝ }
+{
+    words.len()
+}
+
+// A fact for the proofs.
+fn sixteen(words: &Words)
+    ensures { λ r. ⌜ length (now (words .entry)) ≡ 16 ⌝ }
+{
+    size(words);
+}
+
+fn is_second(k: u64) -> bool
+    ensures { λ r. ⌜ r ≡ isSecond k ⌝ }
+{
+    k == 1
+}
+
+fn digits_at(start: u64, end: u64) -> Digits
+    ensures { λ r. ⌜ r ≡ record { start = start; end = end } ⌝ }
+{
+    Digits {
+        start: start as usize,
+        end: end as usize,
+    }
+}
+
+fn live(given: u64, conn: u64) -> Live
+    ensures { λ r. ⌜ r ≡ liveOf given conn ⌝ }
+{
+    if given == 0 {
+        return Live::Nothing;
+    }
+    Live::On(ConnectionId(conn))
+}
+
+fn offer(given: u64, conn: u64, stream: u64) -> Offer
+    ensures { λ r. ⌜ r ≡ offerOf given conn stream ⌝ }
+{
+    if given == 0 {
+        return Offer::Nothing;
+    }
+    Offer::Stream(ConnectionId(conn), StreamId(stream))
+}
+
+fn kind(k: u64) -> StreamInput
+    ensures { λ r. ⌜ r ≡ kindOf k ⌝ }
+{
+    if k == 0 {
+        return StreamInput::Ready;
+    }
+    if k == 1 {
+        return StreamInput::Data;
+    }
+    if k == 2 {
+        return StreamInput::RemoteWriteClosed;
+    }
+    StreamInput::Closed
+}
+
+// Only the kind data may have bytes.
+fn may_have_bytes(k: u64, start: u64, end: u64) -> bool
+    ensures { λ r. ⌜ r ≡ either (isSecond k) (eqb start end) ⌝ }
+{
+    if k == 1 {
+        return true;
+    }
+    start == end
+}
+
 // ---- the first line
 
-// The four times that a line of settings begins with.
-pub enum Times {
-    At {
-        handshake: u64,
-        upgrade: u64,
-        exchange: u64,
-        punch: u64,
-        next: usize,
-    },
-    Bad,
-}
-
-fn read_times(line: &[u8]) -> Times
-    ensures { λ r. ⌜ r ≡ timesOf (now (line .entry)) ⌝ }
+fn settings(w: &Words) -> First
+    ensures { λ r. ⌜ r ≡ settingsIn (now (w .entry)) ⌝ }
 {
-    let NumberField::At {
-        value: handshake,
-        next: p,
-    } = fields::number_at(line, b"handshake=", 0)
-    else {
-        return Times::Bad;
-    };
-    let NumberField::At {
-        value: upgrade,
-        next: q,
-    } = fields::number_at(line, b" upgrade=", p)
-    else {
-        return Times::Bad;
-    };
-    let NumberField::At {
-        value: exchange,
-        next: r,
-    } = fields::number_at(line, b" exchange=", q)
-    else {
-        return Times::Bad;
-    };
-    let NumberField::At {
-        value: punch,
-        next: s,
-    } = fields::number_at(line, b" punch=", r)
-    else {
-        return Times::Bad;
-    };
-    Times::At {
-        handshake: handshake,
-        upgrade: upgrade,
-        exchange: exchange,
-        punch: punch,
-        next: s,
-    }
-}
-
-// The settings behind the times; they end their line.
-pub enum Others {
-    At {
-        interval: u64,
-        payload: u64,
-        private: bool,
-        upgrades: bool,
-    },
-    Bad,
-}
-
-fn read_others(line: &[u8], at: usize) -> Others
-    ensures { λ r. ⌜ r ≡ othersAt (now (line .entry)) at ⌝ }
-{
-    let NumberField::At {
-        value: interval,
-        next: q,
-    } = fields::number_at(line, b" interval=", at)
-    else {
-        return Others::Bad;
-    };
-    let NumberField::At {
-        value: payload,
-        next: r,
-    } = fields::number_at(line, b" payload=", q)
-    else {
-        return Others::Bad;
-    };
-    let ChoiceField::At {
-        second: private,
-        next: s,
-    } = fields::choice_at(line, b" private=", b"0", b"1", r)
-    else {
-        return Others::Bad;
-    };
-    let ChoiceField::At {
-        second: upgrades,
-        next: t,
-    } = fields::choice_at(line, b" upgrades=", b"0", b"1", s)
-    else {
-        return Others::Bad;
-    };
-    if t != line.len() {
-        return Others::Bad;
-    }
-    Others::At {
-        interval: interval,
-        payload: payload,
-        private: private,
-        upgrades: upgrades,
-    }
+    First::Settings(Settings {
+        handshake: w[0],
+        upgrade: w[1],
+        exchange: w[2],
+        punch: w[3],
+        interval: w[4],
+        payload: w[5],
+        private: is_second(w[6]),
+        upgrades: is_second(w[7]),
+    })
 }
 
 pub fn read_settings(line: &[u8]) -> First
     ensures { λ r. ⌜ r ≡ settingsOf (now (line .entry)) ⌝ }
 {
-    let Times::At {
-        handshake: handshake,
-        upgrade: upgrade,
-        exchange: exchange,
-        punch: punch,
-        next: p,
-    } = read_times(line)
-    else {
-        return First::Unknown;
-    };
-    let Others::At {
-        interval: interval,
-        payload: payload,
-        private: private,
-        upgrades: upgrades,
-    } = read_others(line, p)
-    else {
-        return First::Unknown;
-    };
-    First::Settings {
-        handshake: handshake,
-        upgrade: upgrade,
-        exchange: exchange,
-        punch: punch,
-        interval: interval,
-        payload: payload,
-        private: private,
-        upgrades: upgrades,
+    let mut w = [0u64; 16];
+    sixteen(&w);
+    if forms::read_form(
+        b"handshake=# upgrade=# exchange=# punch=# interval=# payload=# private=(0/1) upgrades=(0/1)",
+        line,
+        &mut w,
+    ) {
+        return settings(&w);
     }
-}
-
-// ---- parts that lines share
-
-pub enum KindField {
-    At { kind: Kind, next: usize },
-    Bad,
-}
-
-fn kind_at(line: &[u8], at: usize) -> KindField
-    ensures { λ r. ⌜ r ≡ kindAt (now (line .entry)) at ⌝ }
-{
-    let Span::At { start: a, end: e } = fields::value_at(line, b" kind=", at) else {
-        return KindField::Bad;
-    };
-    if text::is_word(&line[a..e], b"ready") {
-        return KindField::At {
-            kind: Kind::Ready,
-            next: e,
-        };
-    }
-    if text::is_word(&line[a..e], b"data") {
-        return KindField::At {
-            kind: Kind::Data,
-            next: e,
-        };
-    }
-    if text::is_word(&line[a..e], b"end") {
-        return KindField::At {
-            kind: Kind::End,
-            next: e,
-        };
-    }
-    if text::is_word(&line[a..e], b"closed") {
-        return KindField::At {
-            kind: Kind::Closed,
-            next: e,
-        };
-    }
-    KindField::Bad
-}
-
-pub enum InputField {
-    At {
-        kind: Kind,
-        bytes: Digits,
-        next: usize,
-    },
-    Bad,
-}
-
-// Only the kind data may have bytes.
-fn with_bytes(kind: Kind, start: usize, end: usize, next: usize) -> InputField
-    ensures { λ r. ⌜ r ≡ inputOf kind start end next ⌝ }
-{
-    let input = InputField::At {
-        kind: kind,
-        bytes: Digits {
-            start: start,
-            end: end,
-        },
-        next: next,
-    };
-    match kind {
-        Kind::Data => input,
-        Kind::Ready => { if start == end { input } else { InputField::Bad } }
-        Kind::End => { if start == end { input } else { InputField::Bad } }
-        Kind::Closed => { if start == end { input } else { InputField::Bad } }
-    }
-}
-
-fn input_at(line: &[u8], at: usize) -> InputField
-    ensures { λ r. ⌜ r ≡ inputAt (now (line .entry)) at ⌝ }
-{
-    let KindField::At {
-        kind: kind,
-        next: p,
-    } = kind_at(line, at)
-    else {
-        return InputField::Bad;
-    };
-    let BytesField::At {
-        start: a,
-        end: e,
-        next: q,
-    } = fields::bytes_at(line, b" data=", p)
-    else {
-        return InputField::Bad;
-    };
-    with_bytes(kind, a, e, q)
-}
-
-// What the host answers within an up or an input; they end their line.
-pub enum Answers {
-    At {
-        live: Maybe,
-        offer: Pair,
-        pending: bool,
-        own: Digits,
-    },
-    Bad,
-}
-
-fn answers_at(line: &[u8], at: usize) -> Answers
-    ensures { λ r. ⌜ r ≡ answersAt (now (line .entry)) at ⌝ }
-{
-    let MaybeField::At {
-        value: live,
-        next: p,
-    } = fields::maybe_at(line, b" live=", at)
-    else {
-        return Answers::Bad;
-    };
-    let PairField::At {
-        value: offer,
-        next: q,
-    } = fields::pair_at(line, b" offer=", p)
-    else {
-        return Answers::Bad;
-    };
-    let ChoiceField::At {
-        second: pending,
-        next: r,
-    } = fields::choice_at(line, b" pending=", b"0", b"1", q)
-    else {
-        return Answers::Bad;
-    };
-    let BytesField::At {
-        start: a,
-        end: e,
-        next: s,
-    } = fields::bytes_at(line, b" own=", r)
-    else {
-        return Answers::Bad;
-    };
-    if s != line.len() {
-        return Answers::Bad;
-    }
-    Answers::At {
-        live: live,
-        offer: offer,
-        pending: pending,
-        own: Digits { start: a, end: e },
-    }
-}
-
-// The connection of an up or an attribute.
-pub enum Connection {
-    At {
-        at: u64,
-        peer: PeerId,
-        conn: ConnectionId,
-        circuit: bool,
-        next: usize,
-    },
-    Bad,
-}
-
-fn connection_at(line: &[u8], key: &[u8]) -> Connection
-    ensures { λ r. ⌜ r ≡ connectionAt (now (line .entry)) (now (key .entry)) ⌝ }
-{
-    let NumberField::At { value: at, next: p } = fields::number_at(line, key, 0) else {
-        return Connection::Bad;
-    };
-    let NumberField::At {
-        value: peer,
-        next: q,
-    } = fields::number_at(line, b" peer=", p)
-    else {
-        return Connection::Bad;
-    };
-    let NumberField::At {
-        value: conn,
-        next: r,
-    } = fields::number_at(line, b" conn=", q)
-    else {
-        return Connection::Bad;
-    };
-    let ChoiceField::At {
-        second: circuit,
-        next: s,
-    } = fields::choice_at(line, b" via=", b"direct", b"circuit", r)
-    else {
-        return Connection::Bad;
-    };
-    Connection::At {
-        at: at,
-        peer: PeerId(peer),
-        conn: ConnectionId(conn),
-        circuit: circuit,
-        next: s,
-    }
+    First::Unknown
 }
 
 // ---- the calls
 
-fn start(line: &[u8]) -> Line
-    ensures { λ r. ⌜ r ≡ startOf (now (line .entry)) ⌝ }
+fn start(w: &Words) -> Line
+    ensures { λ r. ⌜ r ≡ startOf (now (w .entry)) ⌝ }
 {
-    let NumberField::At { value: at, next: p } = fields::number_at(line, b"do=start at=", 0) else {
-        return Line::Unknown;
-    };
-    let NumberField::At {
-        value: source,
-        next: q,
-    } = fields::number_at(line, b" source=", p)
-    else {
-        return Line::Unknown;
-    };
-    let NumberField::At {
-        value: relay,
-        next: r,
-    } = fields::number_at(line, b" relay=", q)
-    else {
-        return Line::Unknown;
-    };
-    let NumberField::At {
-        value: circuit,
-        next: s,
-    } = fields::number_at(line, b" circuit=", r)
-    else {
-        return Line::Unknown;
-    };
-    if s != line.len() {
-        return Line::Unknown;
-    }
     Line::Start {
-        at: at,
-        source: PeerId(source),
-        relay: PeerId(relay),
-        circuit: ConnectionId(circuit),
+        at: w[0],
+        source: PeerId(w[1]),
+        relay: PeerId(w[2]),
+        circuit: ConnectionId(w[3]),
     }
 }
 
-fn up(line: &[u8]) -> Line
-    ensures { λ r. ⌜ r ≡ upOf (now (line .entry)) ⌝ }
+fn up(w: &Words) -> Line
+    ensures { λ r. ⌜ r ≡ upOf (now (w .entry)) ⌝ }
 {
-    let Connection::At {
-        at: at,
-        peer: peer,
-        conn: conn,
-        circuit: circuit,
-        next: p,
-    } = connection_at(line, b"do=up at=")
-    else {
-        return Line::Unknown;
-    };
-    let Answers::At {
-        live: live,
-        offer: offer,
-        pending: pending,
-        own: own,
-    } = answers_at(line, p)
-    else {
-        return Line::Unknown;
-    };
     Line::Up {
-        at: at,
-        peer: peer,
-        conn: conn,
-        circuit: circuit,
-        live: live,
-        offer: offer,
-        pending: pending,
-        own: own,
+        at: w[0],
+        peer: PeerId(w[1]),
+        conn: ConnectionId(w[2]),
+        circuit: is_second(w[3]),
+        live: live(w[4], w[5]),
+        offer: offer(w[6], w[7], w[8]),
+        pending: is_second(w[9]),
+        own: digits_at(w[10], w[11]),
     }
 }
 
-fn input(line: &[u8]) -> Line
-    ensures { λ r. ⌜ r ≡ inputLine (now (line .entry)) ⌝ }
+fn input(w: &Words) -> Line
+    ensures { λ r. ⌜ r ≡ inputOf (now (w .entry)) ⌝ }
 {
-    let NumberField::At { value: at, next: p } = fields::number_at(line, b"do=input at=", 0) else {
-        return Line::Unknown;
-    };
-    let NumberField::At {
-        value: stream,
-        next: q,
-    } = fields::number_at(line, b" stream=", p)
-    else {
-        return Line::Unknown;
-    };
-    let InputField::At {
-        kind: kind,
-        bytes: bytes,
-        next: r,
-    } = input_at(line, q)
-    else {
-        return Line::Unknown;
-    };
-    let Answers::At {
-        live: live,
-        offer: offer,
-        pending: pending,
-        own: own,
-    } = answers_at(line, r)
-    else {
-        return Line::Unknown;
-    };
-    Line::Input {
-        at: at,
-        stream: StreamId(stream),
-        kind: kind,
-        bytes: bytes,
-        live: live,
-        offer: offer,
-        pending: pending,
-        own: own,
+    if may_have_bytes(w[2], w[3], w[4]) {
+        return Line::Input {
+            at: w[0],
+            stream: StreamId(w[1]),
+            kind: kind(w[2]),
+            bytes: digits_at(w[3], w[4]),
+            live: live(w[5], w[6]),
+            offer: offer(w[7], w[8], w[9]),
+            pending: is_second(w[10]),
+            own: digits_at(w[11], w[12]),
+        };
     }
+    Line::Unknown
 }
 
-fn tick(line: &[u8]) -> Line
-    ensures { λ r. ⌜ r ≡ tickOf (now (line .entry)) ⌝ }
+fn tick(w: &Words) -> Line
+    ensures { λ r. ⌜ r ≡ tickOf (now (w .entry)) ⌝ }
 {
-    let NumberField::At { value: at, next: p } = fields::number_at(line, b"do=tick at=", 0) else {
-        return Line::Unknown;
-    };
-    let MaybeField::At {
-        value: live,
-        next: q,
-    } = fields::maybe_at(line, b" live=", p)
-    else {
-        return Line::Unknown;
-    };
-    let PairField::At {
-        value: offer,
-        next: r,
-    } = fields::pair_at(line, b" offer=", q)
-    else {
-        return Line::Unknown;
-    };
-    let BytesField::At {
-        start: a,
-        end: e,
-        next: s,
-    } = fields::bytes_at(line, b" own=", r)
-    else {
-        return Line::Unknown;
-    };
-    if s != line.len() {
-        return Line::Unknown;
-    }
     Line::Tick {
-        at: at,
-        live: live,
-        offer: offer,
-        own: Digits { start: a, end: e },
+        at: w[0],
+        live: live(w[1], w[2]),
+        offer: offer(w[3], w[4], w[5]),
+        own: digits_at(w[6], w[7]),
     }
 }
 
-fn wrote(line: &[u8]) -> Line
-    ensures { λ r. ⌜ r ≡ wroteOf (now (line .entry)) ⌝ }
+fn wrote(w: &Words) -> Line
+    ensures { λ r. ⌜ r ≡ wroteOf (now (w .entry)) ⌝ }
 {
-    let NumberField::At { value: at, next: p } = fields::number_at(line, b"do=wrote at=", 0) else {
-        return Line::Unknown;
-    };
-    let NumberField::At {
-        value: conn,
-        next: q,
-    } = fields::number_at(line, b" conn=", p)
-    else {
-        return Line::Unknown;
-    };
-    let NumberField::At {
-        value: stream,
-        next: r,
-    } = fields::number_at(line, b" stream=", q)
-    else {
-        return Line::Unknown;
-    };
-    if r != line.len() {
-        return Line::Unknown;
-    }
     Line::Wrote {
-        at: at,
-        conn: ConnectionId(conn),
-        stream: StreamId(stream),
+        at: w[0],
+        conn: ConnectionId(w[1]),
+        stream: StreamId(w[2]),
     }
 }
 
-fn down(line: &[u8]) -> Line
-    ensures { λ r. ⌜ r ≡ downOf (now (line .entry)) ⌝ }
+fn down(w: &Words) -> Line
+    ensures { λ r. ⌜ r ≡ downOf (now (w .entry)) ⌝ }
 {
-    let NumberField::At { value: at, next: p } = fields::number_at(line, b"do=down at=", 0) else {
-        return Line::Unknown;
-    };
-    let NumberField::At {
-        value: peer,
-        next: q,
-    } = fields::number_at(line, b" peer=", p)
-    else {
-        return Line::Unknown;
-    };
-    let NumberField::At {
-        value: conn,
-        next: r,
-    } = fields::number_at(line, b" conn=", q)
-    else {
-        return Line::Unknown;
-    };
-    if r != line.len() {
-        return Line::Unknown;
-    }
     Line::Down {
-        at: at,
-        peer: PeerId(peer),
-        conn: ConnectionId(conn),
+        at: w[0],
+        peer: PeerId(w[1]),
+        conn: ConnectionId(w[2]),
     }
 }
 
-fn dial(line: &[u8]) -> Line
-    ensures { λ r. ⌜ r ≡ dialOf (now (line .entry)) ⌝ }
+fn dial(w: &Words) -> Line
+    ensures { λ r. ⌜ r ≡ dialOf (now (w .entry)) ⌝ }
 {
-    let NumberField::At { value: at, next: p } = fields::number_at(line, b"do=dial at=", 0) else {
-        return Line::Unknown;
-    };
-    let NumberField::At {
-        value: conn,
-        next: q,
-    } = fields::number_at(line, b" conn=", p)
-    else {
-        return Line::Unknown;
-    };
-    let NumberField::At {
-        value: token,
-        next: r,
-    } = fields::number_at(line, b" token=", q)
-    else {
-        return Line::Unknown;
-    };
-    let NumberField::At { value: id, next: s } = fields::number_at(line, b" id=", r) else {
-        return Line::Unknown;
-    };
-    if s != line.len() {
-        return Line::Unknown;
-    }
     Line::Dial {
-        at: at,
-        conn: ConnectionId(conn),
-        token: NatToken(token),
-        id: ConnectId(id),
+        at: w[0],
+        conn: ConnectionId(w[1]),
+        token: NatToken(w[2]),
+        id: ConnectId(w[3]),
     }
 }
 
-fn forget(line: &[u8]) -> Line
-    ensures { λ r. ⌜ r ≡ forgetOf (now (line .entry)) ⌝ }
+fn forget(w: &Words) -> Line
+    ensures { λ r. ⌜ r ≡ forgetOf (now (w .entry)) ⌝ }
 {
-    let NumberField::At { value: at, next: p } = fields::number_at(line, b"do=forget at=", 0) else {
-        return Line::Unknown;
-    };
-    let NumberField::At {
-        value: conn,
-        next: q,
-    } = fields::number_at(line, b" conn=", p)
-    else {
-        return Line::Unknown;
-    };
-    if q != line.len() {
-        return Line::Unknown;
-    }
     Line::Forget {
-        at: at,
-        conn: ConnectionId(conn),
+        at: w[0],
+        conn: ConnectionId(w[1]),
     }
 }
 
-fn attribute(line: &[u8]) -> Line
-    ensures { λ r. ⌜ r ≡ attributeOf (now (line .entry)) ⌝ }
+fn attribute(w: &Words) -> Line
+    ensures { λ r. ⌜ r ≡ attributeOf (now (w .entry)) ⌝ }
 {
-    let Connection::At {
-        at: at,
-        peer: peer,
-        conn: conn,
-        circuit: circuit,
-        next: p,
-    } = connection_at(line, b"do=attribute at=")
-    else {
-        return Line::Unknown;
-    };
-    if p != line.len() {
-        return Line::Unknown;
-    }
     Line::Attribute {
-        at: at,
-        peer: peer,
-        conn: conn,
-        circuit: circuit,
+        at: w[0],
+        peer: PeerId(w[1]),
+        conn: ConnectionId(w[2]),
+        circuit: is_second(w[3]),
     }
 }
 
-// A line behind the first.
+// A line behind the first. The forms share no line; those that most lines have are tried first.
 pub fn read_call(line: &[u8]) -> Line
     ensures { λ r. ⌜ r ≡ lineOf (now (line .entry)) ⌝ }
 {
-    if text::starts_with(line, b"do=start ") {
-        return start(line);
+    let mut w = [0u64; 16];
+    sixteen(&w);
+    if forms::read_form(b"do=tick at=# live=* offer=: own=%", line, &mut w) {
+        return tick(&w);
     }
-    if text::starts_with(line, b"do=up ") {
-        return up(line);
+    if forms::read_form(
+        b"do=input at=# stream=# kind=(ready/data/end/closed) data=% live=* offer=: pending=(0/1) own=%",
+        line,
+        &mut w,
+    ) {
+        return input(&w);
     }
-    if text::starts_with(line, b"do=input ") {
-        return input(line);
+    if forms::read_form(
+        b"do=up at=# peer=# conn=# via=(direct/circuit) live=* offer=: pending=(0/1) own=%",
+        line,
+        &mut w,
+    ) {
+        return up(&w);
     }
-    if text::starts_with(line, b"do=tick ") {
-        return tick(line);
+    if forms::read_form(
+        b"do=attribute at=# peer=# conn=# via=(direct/circuit)",
+        line,
+        &mut w,
+    ) {
+        return attribute(&w);
     }
-    if text::starts_with(line, b"do=wrote ") {
-        return wrote(line);
+    if forms::read_form(b"do=dial at=# conn=# token=# id=#", line, &mut w) {
+        return dial(&w);
     }
-    if text::starts_with(line, b"do=down ") {
-        return down(line);
+    if forms::read_form(b"do=forget at=# conn=#", line, &mut w) {
+        return forget(&w);
     }
-    if text::starts_with(line, b"do=dial ") {
-        return dial(line);
+    if forms::read_form(b"do=down at=# peer=# conn=#", line, &mut w) {
+        return down(&w);
     }
-    if text::starts_with(line, b"do=forget ") {
-        return forget(line);
+    if forms::read_form(b"do=start at=# source=# relay=# circuit=#", line, &mut w) {
+        return start(&w);
     }
-    attribute(line)
+    if forms::read_form(b"do=wrote at=# conn=# stream=#", line, &mut w) {
+        return wrote(&w);
+    }
+    Line::Unknown
 }
 
-// Each call that holds numbers alone is read from its text.
+// ---- laws of the forms
+
+// Each line is read from its text.
 pub fn calls_read_back()
+    ensures settings { λ r. ⌜ SettingsAreRead ⌝ }
     ensures start { λ r. ⌜ StartIsRead ⌝ }
+    ensures up { λ r. ⌜ UpIsRead ⌝ }
+    ensures input { λ r. ⌜ InputIsRead ⌝ }
+    ensures tick { λ r. ⌜ TickIsRead ⌝ }
     ensures wrote { λ r. ⌜ WroteIsRead ⌝ }
     ensures down { λ r. ⌜ DownIsRead ⌝ }
     ensures dial { λ r. ⌜ DialIsRead ⌝ }
     ensures forget { λ r. ⌜ ForgetIsRead ⌝ }
+    ensures attribute { λ r. ⌜ AttributeIsRead ⌝ }
+{}
+
+// A line that two of the ten forms read shows them to be the same.
+pub fn no_two_forms_share_a_line()
+    ensures { λ r. ⌜ ShareNoLine forms ⌝ }
 {}

@@ -2,53 +2,29 @@
 use mathlib.Core.Path.{_≡_, refl}
 use mathlib.Core.List.{List, [], _∷_, _++_}
 use mathlib.Core.Bool.{Bool, true, false}
-use Prim.Native.Nat.{ℕ, zero, suc, _+_, _-_, _*_, _/_, _%_, _<_, _≤_}
+use Prim.Native.Nat.{ℕ, zero, suc, _+_, _-_, _*_, _≤_}
 use native.Mathlib.Omega.{arith}
-use lib.Dec.{ltb, eqb}
+use lib.Dec.{eqb}
 use lib.ListN.{length, take, drop, length-append, length-take, length-drop}
-use borrow.Author.Tests.{ltb-true, ltb-false}
 use Rattle.prelude.specs.Choice.{pick}
 use Rattle.prelude.specs.Numbers.{maxU64}
-use Rattle.text.specs.Decimal.{decimal}
-use Rattle.text.specs.Hexadecimal.{hexadecimal, bytesText}
-use Rattle.text.proofs.Printing.{one, more, fits}
+use Rattle.text.specs.Hexadecimal.{hexadecimal}
+use Rattle.text.specs.Words.{lengthBefore}
+use Rattle.text.proofs.Printing.{fits}
+use Rattle.forms.specs.Forms.{kindOf, split, onFirst}
+use Rattle.forms.specs.Texts.{number, bytes, word, text, kindOfValue}
+use Rattle.forms.specs.Room.{longest, roomFrom, roomOf, KindsFrom, AllAtMost}
+use Rattle.forms.proofs.Room.{hexadecimal-length, text-short}
 use Rattle.wire.specs.Lists.{sizeAt, opens, along, entries}
 use Rattle.wire.proofs.Entries.{opens-long}
 use Rattle.refusal.specs.Number.{numberOf}
 use Rattle.refusal.specs.declared.Refusal.{Refusal}
-use Rattle.path.specs.declared.Path.{Path}
 use Rattle.path.specs.declared.Owner.{Owner}
-use Rattle.journal_prints.specs.Outputs.{withCommas, targetsText, pathWord, ownerWord}
-use Rattle.journal_prints.specs.Room.{room, OwnerFits, Output, isNone, isPath, isOpen, isSend, isReset, isBurst, isClose, isUpgrade, isAttributed, isUnattributed, isRefused, Whole}
+use Rattle.journal_prints.specs.Outputs.{withCommas, targetsText, pathPlace, noPath, ownedText}
+use Rattle.journal_prints.specs.Forms.{noneForm, pathForm, burstForm, upgradeForm, closeForm, sendForm, resetForm, openForm, ownedForm, namedForm, refusedForm}
+use Rattle.journal_prints.specs.Room.{messageMost, listMost, room, OwnerFits, Output, isNone, isPath, isOpen, isSend, isReset, isBurst, isClose, isUpgrade, isAttributed, isUnattributed, isRefused, Whole}
 use Rattle.refusal.specs.declared.Refusal.the-variants as refusal
-use Rattle.path.specs.declared.Path.the-variants as path-of
 use Rattle.path.specs.declared.Owner.the-variants as owner-of
-
-abbrev tens : ℕ → ℕ
-tens zero = 1
-tens (suc k) = tens k * 10
-
-digits-most : (k v : ℕ) → v < tens (suc k) → length (decimal v) ≤ suc k
-digits-most zero v h = rw (one v (omega arith)) (omega arith)
-digits-most (suc k) v h = go (ltb v 10) refl (λ l. digits-most k (v / 10) (omega arith))
-  where
-    go : (t : Bool) → ltb v 10 ≡ t → (10 ≤ v → length (decimal (v / 10)) ≤ suc k) → length (decimal v) ≤ suc (suc k)
-    go true e f = rw (one v (ltb-true _ _ e)) (omega arith)
-    go false e f =
-        let l : 10 ≤ v = ltb-false _ _ e in
-        rw (more v l) (omega (arith, length-append (decimal (v / 10)) ((48 + v % 10) ∷ []), f l))
-
-number-most : (v : ℕ) → v ≤ maxU64 → length (decimal v) ≤ 20
-number-most v h = digits-most 19 v (omega arith)
-
-hexadecimal-length : (s : List ℕ) → length (hexadecimal s) ≡ 2 * length s
-unfolding hexadecimal
-hexadecimal-length [] = refl
-hexadecimal-length (b ∷ s) = omega (arith, hexadecimal-length s)
-
-bytes-most : (s : List ℕ) → length s ≤ 156 → length (bytesText s) ≤ 312
-bytes-most [] h = omega arith
-bytes-most (b ∷ s) h = omega (arith, hexadecimal-length (b ∷ s))
 
 -- an address's two length bytes are more than its comma
 others-most : (k : ℕ) (s : List ℕ) → length (withCommas (along [] [] (λ a xs. a ∷ xs) k s)) ≤ 2 * length s
@@ -76,18 +52,8 @@ unfolding targetsText withCommas
 targets-most [] = omega arith
 targets-most (a ∷ xs) = omega (arith, length-append (hexadecimal a) (withCommas xs), length-append (44 ∷ hexadecimal a) (withCommas xs))
 
-list-most : (s : List ℕ) → length s ≤ 200 → length (targetsText (entries s)) ≤ 400
+list-most : (s : List ℕ) → length s ≤ listMost → length (targetsText (entries s)) ≤ 2 * listMost
 list-most s h = omega (arith, targets-most (entries s), others-most (length s) s)
-
-path-most : (p : Path) → length (pathWord p) ≤ 7
-path-most (path-of.Relayed relay) = omega arith
-path-most path-of.Punched = omega arith
-path-most path-of.Direct = omega arith
-
-owner-most : (o : Owner) → OwnerFits o → length (ownerWord o) ≤ 20
-owner-most (owner-of.Attempt id) h = number-most (id .0) (h id refl)
-owner-most owner-of.Inbound h = omega arith
-owner-most owner-of.None h = omega arith
 
 refusal-most : (why : Refusal) → numberOf why ≤ maxU64
 refusal-most refusal.ReplyBufferTooShort = omega arith
@@ -103,18 +69,116 @@ refusal-most refusal.WrongType = omega arith
 refusal-most refusal.UnknownLine = omega arith
 refusal-most refusal.NotStarted = omega arith
 
+-- ---- an output's length
+
+none-room : roomOf messageMost noneForm ≡ 31
+unfolding roomFrom kindOf longest split onFirst lengthBefore
+none-room = refl
+
+none-short : (n : ℕ) → n ≤ maxU64 → length (text noneForm (number n ∷ [])) ≤ 31
+unfolding KindsFrom kindOf kindOfValue AllAtMost
+none-short n h0 = omega (arith, none-room, text-short messageMost noneForm (number n ∷ []) (refl, tt) (h0, tt))
+
+path-room : roomOf messageMost pathForm ≡ 110
+unfolding roomFrom kindOf longest split onFirst lengthBefore
+path-room = refl
+
+path-short : (n : ℕ) (a : ℕ) (b : ℕ) (c : ℕ) → n ≤ maxU64 → a ≤ maxU64 → b ≤ maxU64 → c ≤ maxU64 → length (text pathForm (number n ∷ number a ∷ number b ∷ number c ∷ [])) ≤ 110
+unfolding KindsFrom kindOf kindOfValue AllAtMost
+path-short n a b c h0 h1 h2 h3 = omega (arith, path-room, text-short messageMost pathForm (number n ∷ number a ∷ number b ∷ number c ∷ []) (refl, (refl, (refl, (refl, tt)))) (h0, (h1, (h2, (h3, tt)))))
+
+burst-room : roomOf messageMost burstForm ≡ 96
+unfolding roomFrom kindOf longest split onFirst lengthBefore
+burst-room = refl
+
+burst-short : (n : ℕ) (a : ℕ) (b : ℕ) → n ≤ maxU64 → a ≤ maxU64 → b ≤ maxU64 → length (text burstForm (number n ∷ number a ∷ number b ∷ [])) ≤ 96
+unfolding KindsFrom kindOf kindOfValue AllAtMost
+burst-short n a b h0 h1 h2 = omega (arith, burst-room, text-short messageMost burstForm (number n ∷ number a ∷ number b ∷ []) (refl, (refl, (refl, tt))) (h0, (h1, (h2, tt))))
+
+upgrade-room : roomOf messageMost upgradeForm ≡ 110
+unfolding roomFrom kindOf longest split onFirst lengthBefore
+upgrade-room = refl
+
+upgrade-short : (n : ℕ) (a : ℕ) (b : ℕ) (c : ℕ) → n ≤ maxU64 → a ≤ maxU64 → b ≤ maxU64 → c ≤ maxU64 → length (text upgradeForm (number n ∷ number a ∷ number b ∷ number c ∷ [])) ≤ 110
+unfolding KindsFrom kindOf kindOfValue AllAtMost
+upgrade-short n a b c h0 h1 h2 h3 = omega (arith, upgrade-room, text-short messageMost upgradeForm (number n ∷ number a ∷ number b ∷ number c ∷ []) (refl, (refl, (refl, (refl, tt)))) (h0, (h1, (h2, (h3, tt)))))
+
+close-room : roomOf messageMost closeForm ≡ 58
+unfolding roomFrom kindOf longest split onFirst lengthBefore
+close-room = refl
+
+close-short : (n : ℕ) (a : ℕ) → n ≤ maxU64 → a ≤ maxU64 → length (text closeForm (number n ∷ number a ∷ [])) ≤ 58
+unfolding KindsFrom kindOf kindOfValue AllAtMost
+close-short n a h0 h1 = omega (arith, close-room, text-short messageMost closeForm (number n ∷ number a ∷ []) (refl, (refl, tt)) (h0, (h1, tt)))
+
+send-room : roomOf messageMost sendForm ≡ 404
+unfolding roomFrom kindOf longest split onFirst lengthBefore
+send-room = refl
+
+send-short : (n : ℕ) (a : ℕ) (b : ℕ) (s : List ℕ) → n ≤ maxU64 → a ≤ maxU64 → b ≤ maxU64 → length s ≤ messageMost → length (text sendForm (number n ∷ number a ∷ number b ∷ bytes s ∷ [])) ≤ 404
+unfolding KindsFrom kindOf kindOfValue AllAtMost
+send-short n a b s h0 h1 h2 h3 = omega (arith, send-room, text-short messageMost sendForm (number n ∷ number a ∷ number b ∷ bytes s ∷ []) (refl, (refl, (refl, (refl, tt)))) (h0, (h1, (h2, (h3, tt)))))
+
+reset-room : roomOf messageMost resetForm ≡ 86
+unfolding roomFrom kindOf longest split onFirst lengthBefore
+reset-room = refl
+
+reset-short : (n : ℕ) (a : ℕ) (b : ℕ) → n ≤ maxU64 → a ≤ maxU64 → b ≤ maxU64 → length (text resetForm (number n ∷ number a ∷ number b ∷ [])) ≤ 86
+unfolding KindsFrom kindOf kindOfValue AllAtMost
+reset-short n a b h0 h1 h2 = omega (arith, reset-room, text-short messageMost resetForm (number n ∷ number a ∷ number b ∷ []) (refl, (refl, (refl, tt))) (h0, (h1, (h2, tt))))
+
+open-room : roomOf messageMost openForm ≡ 85
+unfolding roomFrom kindOf longest split onFirst lengthBefore
+open-room = refl
+
+open-short : (n : ℕ) (a : ℕ) (b : ℕ) → n ≤ maxU64 → a ≤ maxU64 → b ≤ maxU64 → length (text openForm (number n ∷ number a ∷ number b ∷ [])) ≤ 85
+unfolding KindsFrom kindOf kindOfValue AllAtMost
+open-short n a b h0 h1 h2 = omega (arith, open-room, text-short messageMost openForm (number n ∷ number a ∷ number b ∷ []) (refl, (refl, (refl, tt))) (h0, (h1, (h2, tt))))
+
+owned-room : roomOf messageMost ownedForm ≡ 77
+unfolding roomFrom kindOf longest split onFirst lengthBefore
+owned-room = refl
+
+owned-short : (n : ℕ) (a : ℕ) (b : ℕ) → n ≤ maxU64 → b ≤ maxU64 → length (text ownedForm (number n ∷ word a ∷ number b ∷ [])) ≤ 77
+unfolding KindsFrom kindOf kindOfValue AllAtMost
+owned-short n a b h0 h2 = omega (arith, owned-room, text-short messageMost ownedForm (number n ∷ word a ∷ number b ∷ []) (refl, (refl, (refl, tt))) (h0, (tt, (h2, tt))))
+
+named-room : roomOf messageMost namedForm ≡ 64
+unfolding roomFrom kindOf longest split onFirst lengthBefore
+named-room = refl
+
+named-short : (n : ℕ) (a : ℕ) (b : ℕ) → n ≤ maxU64 → length (text namedForm (number n ∷ word a ∷ word b ∷ [])) ≤ 64
+unfolding KindsFrom kindOf kindOfValue AllAtMost
+named-short n a b h0 = omega (arith, named-room, text-short messageMost namedForm (number n ∷ word a ∷ word b ∷ []) (refl, (refl, (refl, tt))) (h0, (tt, (tt, tt))))
+
+refused-room : roomOf messageMost refusedForm ≡ 59
+unfolding roomFrom kindOf longest split onFirst lengthBefore
+refused-room = refl
+
+refused-short : (n : ℕ) (a : ℕ) → n ≤ maxU64 → a ≤ maxU64 → length (text refusedForm (number n ∷ number a ∷ [])) ≤ 59
+unfolding KindsFrom kindOf kindOfValue AllAtMost
+refused-short n a h0 h1 = omega (arith, refused-room, text-short messageMost refusedForm (number n ∷ number a ∷ []) (refl, (refl, tt)) (h0, (h1, tt)))
+
+owner-short : (n place : ℕ) (o : Owner) → n ≤ maxU64 → OwnerFits o → length (ownedText n place o) ≤ room
+owner-short n place (owner-of.Attempt id) h f = simp length-append (omega (arith, owned-short n place (id .0) h (f id refl)))
+owner-short n place owner-of.Inbound h f = simp length-append (omega (arith, named-short n place 0 h))
+owner-short n place owner-of.None h f = simp length-append (omega (arith, named-short n place 1 h))
+
+no-owner : OwnerFits owner-of.None
+no-owner id e = let z : _≡_ {A = ℕ} 0 1 = cc in absurd (omega arith)
+
 pub short : {t : List ℕ} → Output t → length t ≤ room
-short (isNone n h) = simp length-append (omega (arith, number-most n h))
-short (isPath n peer relay conn h i j k) = simp length-append (omega (arith, number-most n h, number-most (peer .0) i, number-most (relay .0) j, number-most (conn .0) k))
-short (isOpen n conn stream h i j) = simp length-append (omega (arith, number-most n h, number-most (conn .0) i, number-most (stream .0) j))
-short (isSend n conn stream message h i j k) = simp length-append (omega (arith, number-most n h, number-most (conn .0) i, number-most (stream .0) j, bytes-most message k))
-short (isReset n conn stream h i j) = simp length-append (omega (arith, number-most n h, number-most (conn .0) i, number-most (stream .0) j))
-short (isBurst n times payload targets h i j k) = simp length-append (omega (arith, number-most n h, number-most times i, number-most payload j, list-most targets k))
-short (isClose n conn h i) = simp length-append (omega (arith, number-most n h, number-most (conn .0) i))
-short (isUpgrade n peer old new h i j k) = simp length-append (omega (arith, number-most n h, number-most (peer .0) i, number-most (old .0) j, number-most (new .0) k))
-short (isAttributed n a h i) = simp length-append (omega (arith, number-most n h, path-most (a .path), owner-most (a .owner) i))
-short (isUnattributed n h) = simp length-append (omega (arith, number-most n h))
-short (isRefused n why h) = simp length-append (omega (arith, number-most n h, number-most (numberOf why) (refusal-most why)))
+short (isNone n h) = simp length-append (omega (arith, none-short n h))
+short (isPath n peer relay conn h i j k) = simp length-append (omega (arith, path-short n (peer .0) (relay .0) (conn .0) h i j k))
+short (isOpen n conn stream h i j) = simp length-append (omega (arith, open-short n (conn .0) (stream .0) h i j))
+short (isSend n conn stream message h i j k) = simp length-append (omega (arith, send-short n (conn .0) (stream .0) message h i j k))
+short (isReset n conn stream h i j) = simp length-append (omega (arith, reset-short n (conn .0) (stream .0) h i j))
+short (isBurst n times payload targets h i j k) = simp length-append (omega (arith, burst-short n times payload h i j, list-most targets k))
+short (isClose n conn h i) = simp length-append (omega (arith, close-short n (conn .0) h i))
+short (isUpgrade n peer old new h i j k) = simp length-append (omega (arith, upgrade-short n (peer .0) (old .0) (new .0) h i j k))
+short (isAttributed n a h i) = owner-short n (pathPlace (a .path)) (a .owner) h i
+short (isUnattributed n h) = owner-short n noPath owner-of.None h no-owner
+short (isRefused n why h) = simp length-append (omega (arith, refused-short n (numberOf why) h (refusal-most why)))
 
 pub four-whole : (buffer a b c d : List ℕ) → 4 * room ≤ length buffer → Output a → Output b → Output c → Output d → Whole buffer a b c d
 four-whole buffer a b c d h i j k l =

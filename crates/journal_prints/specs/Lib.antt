@@ -1,2 +1,3 @@
+pub mod Forms
 pub mod Outputs
 pub mod Room

@@ -3,9 +3,10 @@ use Prim.Native.Nat.{ℕ}
 use mathlib.Core.List.{List, [], _∷_, _++_}
 use Rattle.text.specs.Words.{ascii}
 use Rattle.text.specs.Decimal.{decimal}
-use Rattle.text.specs.Hexadecimal.{hexadecimal, bytesText}
-use Rattle.fields.specs.Fields.{keyed}
+use Rattle.text.specs.Hexadecimal.{hexadecimal}
+use Rattle.forms.specs.Texts.{Value, number, bytes, word, text}
 use Rattle.wire.specs.Lists.{entries}
+use Rattle.journal_prints.specs.Forms.{noneForm, pathForm, burstForm, upgradeForm, closeForm, sendForm, resetForm, openForm, ownedForm, namedForm, refusedForm}
 use Rattle.refusal.specs.Number.{numberOf}
 use Rattle.refusal.specs.declared.Refusal.{Refusal}
 use Rattle.ids.specs.declared.PeerId.{PeerId}
@@ -19,22 +20,24 @@ use Rattle.path.specs.declared.Path.the-variants as path
 use Rattle.path.specs.declared.Owner.the-variants as owner
 use Rattle.path.specs.declared.FoundPath.the-variants as found
 
+-- the values of a form, and a line feed
+abbrev pub lineText : List ℕ → List Value → List ℕ
+lineText form vs = text form vs ++ ascii "\n"
+
 abbrev pub noneText : ℕ → List ℕ
-noneText n = keyed (ascii "n=") n ++ ascii " out=none\n"
+noneText n = lineText noneForm (number n ∷ [])
 
 abbrev pub pathText : ℕ → PeerId → PeerId → ConnectionId → List ℕ
-pathText n peer relay conn =
-    keyed (ascii "n=") n ++ keyed (ascii " out=path peer=") (peer .0) ++ keyed (ascii " relay=") (relay .0) ++ keyed (ascii " conn=") (conn .0) ++ ascii "\n"
+pathText n peer relay conn = lineText pathForm (number n ∷ number (peer .0) ∷ number (relay .0) ∷ number (conn .0) ∷ [])
 
 abbrev pub openText : ℕ → ConnectionId → StreamId → List ℕ
-openText n conn stream = keyed (ascii "n=") n ++ keyed (ascii " out=open conn=") (conn .0) ++ keyed (ascii " stream=") (stream .0) ++ ascii "\n"
+openText n conn stream = lineText openForm (number n ∷ number (conn .0) ∷ number (stream .0) ∷ [])
 
 abbrev pub sendText : ℕ → ConnectionId → StreamId → List ℕ → List ℕ
-sendText n conn stream message =
-    keyed (ascii "n=") n ++ keyed (ascii " out=send conn=") (conn .0) ++ keyed (ascii " stream=") (stream .0) ++ (ascii " data=" ++ bytesText message) ++ ascii "\n"
+sendText n conn stream message = lineText sendForm (number n ∷ number (conn .0) ∷ number (stream .0) ∷ bytes message ∷ [])
 
 abbrev pub resetText : ℕ → ConnectionId → StreamId → List ℕ
-resetText n conn stream = keyed (ascii "n=") n ++ keyed (ascii " out=reset conn=") (conn .0) ++ keyed (ascii " stream=") (stream .0) ++ ascii "\n"
+resetText n conn stream = lineText resetForm (number n ∷ number (conn .0) ∷ number (stream .0) ∷ [])
 
 -- addresses, a comma before each
 unfoldable pub withCommas : List (List ℕ) → List ℕ
@@ -47,20 +50,28 @@ targetsText [] = []
 targetsText (a ∷ xs) = hexadecimal a ++ withCommas xs
 
 abbrev pub burstText : ℕ → ℕ → ℕ → List ℕ → List ℕ
-burstText n times payload targets =
-    keyed (ascii "n=") n ++ keyed (ascii " out=burst times=") times ++ keyed (ascii " payload=") payload ++ ascii " target=" ++ targetsText (entries targets) ++ ascii "\n"
+burstText n times payload targets = text burstForm (number n ∷ number times ∷ number payload ∷ []) ++ targetsText (entries targets) ++ ascii "\n"
 
 abbrev pub closeText : ℕ → ConnectionId → List ℕ
-closeText n conn = keyed (ascii "n=") n ++ keyed (ascii " out=close conn=") (conn .0) ++ ascii "\n"
+closeText n conn = lineText closeForm (number n ∷ number (conn .0) ∷ [])
 
 abbrev pub upgradeText : ℕ → PeerId → ConnectionId → ConnectionId → List ℕ
-upgradeText n peer old new =
-    keyed (ascii "n=") n ++ keyed (ascii " out=upgrade peer=") (peer .0) ++ keyed (ascii " old=") (old .0) ++ keyed (ascii " new=") (new .0) ++ ascii "\n"
+upgradeText n peer old new = lineText upgradeForm (number n ∷ number (peer .0) ∷ number (old .0) ∷ number (new .0) ∷ [])
 
-abbrev pub pathWord : Path → List ℕ
-pathWord (path.Relayed relay) = ascii "relayed"
-pathWord path.Punched = ascii "punched"
-pathWord path.Direct = ascii "direct"
+-- relayed, punched, direct; none of a connection that gets no name
+abbrev pub pathPlace : Path → ℕ
+pathPlace (path.Relayed relay) = 0
+pathPlace path.Punched = 1
+pathPlace path.Direct = 2
+
+abbrev pub noPath : ℕ
+noPath = 3
+
+-- an attempt's number, inbound, or none
+abbrev pub ownedText : ℕ → ℕ → Owner → List ℕ
+ownedText n place (owner.Attempt id) = lineText ownedForm (number n ∷ word place ∷ number (id .0) ∷ [])
+ownedText n place owner.Inbound = lineText namedForm (number n ∷ word place ∷ word 0 ∷ [])
+ownedText n place owner.None = lineText namedForm (number n ∷ word place ∷ word 1 ∷ [])
 
 abbrev pub ownerWord : Owner → List ℕ
 ownerWord (owner.Attempt id) = decimal (id .0)
@@ -68,14 +79,14 @@ ownerWord owner.Inbound = ascii "inbound"
 ownerWord owner.None = ascii "none"
 
 abbrev pub attributionText : ℕ → Attribution → List ℕ
-attributionText n a = keyed (ascii "n=") n ++ ascii " out=attributed path=" ++ pathWord (a .path) ++ ascii " owner=" ++ ownerWord (a .owner) ++ ascii "\n"
+attributionText n a = ownedText n (pathPlace (a .path)) (a .owner)
 
 abbrev pub unattributedText : ℕ → List ℕ
-unattributedText n = keyed (ascii "n=") n ++ ascii " out=attributed path=none owner=none\n"
+unattributedText n = ownedText n noPath owner.None
 
 abbrev pub attributedText : ℕ → FoundPath → List ℕ
 attributedText n (found.At a) = attributionText n a
 attributedText n found.None = unattributedText n
 
 abbrev pub refusedText : ℕ → Refusal → List ℕ
-refusedText n why = keyed (ascii "n=") n ++ keyed (ascii " out=refused why=") (numberOf why) ++ ascii "\n"
+refusedText n why = lineText refusedForm (number n ∷ number (numberOf why) ∷ [])

@@ -1,6 +1,6 @@
 -- How long an output is at most (RULES.md, section 12.7). Numbers are of 64 bits, a framed message has at most 156 bytes, and a target list
 -- at most 200: eight addresses of 23 bytes, each behind its length.
-use Prim.Native.Nat.{ℕ, _≤_}
+use Prim.Native.Nat.{ℕ, _+_, _*_, _≤_}
 use mathlib.Core.Path.{_≡_}
 use mathlib.Core.List.{List, _++_}
 use lib.ListN.{length, take}
@@ -16,8 +16,16 @@ use Rattle.path.specs.declared.Owner.the-variants.{Attempt}
 use Rattle.path.specs.declared.Attribution.{Attribution}
 use Rattle.journal_prints.specs.Outputs.{noneText, pathText, openText, sendText, resetText, burstText, closeText, upgradeText, attributionText, unattributedText, refusedText}
 
+-- a framed message (`FRAME_CAPACITY` of frames), and a target list (`CAPACITY` of candidates)
+abbrev pub messageMost : ℕ
+messageMost = 156
+
+abbrev pub listMost : ℕ
+listMost = 200
+
+-- the longest is a burst: 96 bytes before its targets, two digits for each byte of the list, and the line feed
 abbrev pub room : ℕ
-room = 497
+room = 96 + 2 * listMost + 1
 
 -- an owner's number is of 64 bits
 abbrev pub OwnerFits : Owner → Type 0
@@ -28,10 +36,10 @@ pub data Output : List ℕ → Type 0 where
   isNone : (n : ℕ) → n ≤ maxU64 → Output (noneText n)
   isPath : (n : ℕ) (peer relay : PeerId) (conn : ConnectionId) → n ≤ maxU64 → peer .0 ≤ maxU64 → relay .0 ≤ maxU64 → conn .0 ≤ maxU64 → Output (pathText n peer relay conn)
   isOpen : (n : ℕ) (conn : ConnectionId) (stream : StreamId) → n ≤ maxU64 → conn .0 ≤ maxU64 → stream .0 ≤ maxU64 → Output (openText n conn stream)
-  isSend : (n : ℕ) (conn : ConnectionId) (stream : StreamId) (message : List ℕ) → n ≤ maxU64 → conn .0 ≤ maxU64 → stream .0 ≤ maxU64 → length message ≤ 156
+  isSend : (n : ℕ) (conn : ConnectionId) (stream : StreamId) (message : List ℕ) → n ≤ maxU64 → conn .0 ≤ maxU64 → stream .0 ≤ maxU64 → length message ≤ messageMost
       → Output (sendText n conn stream message)
   isReset : (n : ℕ) (conn : ConnectionId) (stream : StreamId) → n ≤ maxU64 → conn .0 ≤ maxU64 → stream .0 ≤ maxU64 → Output (resetText n conn stream)
-  isBurst : (n times payload : ℕ) (targets : List ℕ) → n ≤ maxU64 → times ≤ maxU64 → payload ≤ maxU64 → length targets ≤ 200 → Output (burstText n times payload targets)
+  isBurst : (n times payload : ℕ) (targets : List ℕ) → n ≤ maxU64 → times ≤ maxU64 → payload ≤ maxU64 → length targets ≤ listMost → Output (burstText n times payload targets)
   isClose : (n : ℕ) (conn : ConnectionId) → n ≤ maxU64 → conn .0 ≤ maxU64 → Output (closeText n conn)
   isUpgrade : (n : ℕ) (peer : PeerId) (old new : ConnectionId) → n ≤ maxU64 → peer .0 ≤ maxU64 → old .0 ≤ maxU64 → new .0 ≤ maxU64 → Output (upgradeText n peer old new)
   isAttributed : (n : ℕ) (a : Attribution) → n ≤ maxU64 → OwnerFits (a .owner) → Output (attributionText n a)

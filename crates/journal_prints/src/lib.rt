@@ -10,20 +10,23 @@ use path::Path;
 use refusal::Refusal;
 use wire::Entry;
 ghost use mathlib.Core.Path.{_≡_};
-ghost use mathlib.Core.List.{List};
+ghost use mathlib.Core.List.{List, [], _∷_};
 ghost use Prim.Native.Nat.{ℕ, _*_, _≤_};
 ghost use lib.ListN.{length};
 ghost use Rattle.wire.specs.Lists.{entries};
 ghost use Rattle.text.specs.Printed.{printed, behind};
-ghost use Rattle.journal_prints.specs.Outputs.{withCommas, targetsText, pathWord, ownerWord, noneText, pathText, openText, sendText, resetText, burstText, closeText, upgradeText, attributionText, unattributedText, attributedText, refusedText};
+ghost use Rattle.forms.specs.Texts.{number, word};
+ghost use Rattle.journal_prints.specs.Forms.{ownedForm, namedForm};
+ghost use Rattle.journal_prints.specs.Outputs.{withCommas, targetsText, pathPlace, ownedText, ownerWord, lineText, noneText, pathText, openText, sendText, resetText, burstText, closeText, upgradeText, attributionText, attributedText, refusedText};
 ghost use Rattle.journal_prints.specs.Room.{room, Output, Whole};
 
 pub fn put_none(n: u64, out: &mut [u8], at: usize) -> usize
     ensures bytes { λ r. ⌜ now (out .exit) ≡ printed (now (out .entry)) at (noneText n) ⌝ }
     ensures place { λ r. ⌜ r ≡ behind (now (out .entry)) at (noneText n) ⌝ }
 {
-    let p = fields::put_number(b"n=", n, out, at);
-    text::put_text(b" out=none\n", out, p)
+    let words = [n];
+    let p = forms::put_form(b"n=# out=none", &words, b"", out, at);
+    text::put_byte(b'\n', out, p)
 }
 
 pub fn put_path(
@@ -37,10 +40,8 @@ pub fn put_path(
     ensures bytes { λ r. ⌜ now (out .exit) ≡ printed (now (out .entry)) at (pathText n peer relay conn) ⌝ }
     ensures place { λ r. ⌜ r ≡ behind (now (out .entry)) at (pathText n peer relay conn) ⌝ }
 {
-    let p = fields::put_number(b"n=", n, out, at);
-    let p = fields::put_number(b" out=path peer=", peer.0, out, p);
-    let p = fields::put_number(b" relay=", relay.0, out, p);
-    let p = fields::put_number(b" conn=", conn.0, out, p);
+    let words = [n, peer.0, relay.0, conn.0];
+    let p = forms::put_form(b"n=# out=path peer=# relay=# conn=#", &words, b"", out, at);
     text::put_byte(b'\n', out, p)
 }
 
@@ -48,9 +49,8 @@ pub fn put_open(n: u64, conn: ConnectionId, stream: StreamId, out: &mut [u8], at
     ensures bytes { λ r. ⌜ now (out .exit) ≡ printed (now (out .entry)) at (openText n conn stream) ⌝ }
     ensures place { λ r. ⌜ r ≡ behind (now (out .entry)) at (openText n conn stream) ⌝ }
 {
-    let p = fields::put_number(b"n=", n, out, at);
-    let p = fields::put_number(b" out=open conn=", conn.0, out, p);
-    let p = fields::put_number(b" stream=", stream.0, out, p);
+    let words = [n, conn.0, stream.0];
+    let p = forms::put_form(b"n=# out=open conn=# stream=#", &words, b"", out, at);
     text::put_byte(b'\n', out, p)
 }
 
@@ -65,10 +65,14 @@ pub fn put_send(
     ensures bytes { λ r. ⌜ now (out .exit) ≡ printed (now (out .entry)) at (sendText n conn stream (now (message .entry))) ⌝ }
     ensures place { λ r. ⌜ r ≡ behind (now (out .entry)) at (sendText n conn stream (now (message .entry))) ⌝ }
 {
-    let p = fields::put_number(b"n=", n, out, at);
-    let p = fields::put_number(b" out=send conn=", conn.0, out, p);
-    let p = fields::put_number(b" stream=", stream.0, out, p);
-    let p = fields::put_bytes(b" data=", message, out, p);
+    let words = [n, conn.0, stream.0, 0, message.len() as u64];
+    let p = forms::put_form(
+        b"n=# out=send conn=# stream=# data=%",
+        &words,
+        message,
+        out,
+        at,
+    );
     text::put_byte(b'\n', out, p)
 }
 
@@ -76,9 +80,8 @@ pub fn put_reset(n: u64, conn: ConnectionId, stream: StreamId, out: &mut [u8], a
     ensures bytes { λ r. ⌜ now (out .exit) ≡ printed (now (out .entry)) at (resetText n conn stream) ⌝ }
     ensures place { λ r. ⌜ r ≡ behind (now (out .entry)) at (resetText n conn stream) ⌝ }
 {
-    let p = fields::put_number(b"n=", n, out, at);
-    let p = fields::put_number(b" out=reset conn=", conn.0, out, p);
-    let p = fields::put_number(b" stream=", stream.0, out, p);
+    let words = [n, conn.0, stream.0];
+    let p = forms::put_form(b"n=# out=reset conn=# stream=#", &words, b"", out, at);
     text::put_byte(b'\n', out, p)
 }
 
@@ -131,10 +134,14 @@ pub fn put_burst(
     ensures bytes { λ r. ⌜ now (out .exit) ≡ printed (now (out .entry)) at (burstText n times payload (now (targets .entry))) ⌝ }
     ensures place { λ r. ⌜ r ≡ behind (now (out .entry)) at (burstText n times payload (now (targets .entry))) ⌝ }
 {
-    let p = fields::put_number(b"n=", n, out, at);
-    let p = fields::put_number(b" out=burst times=", times, out, p);
-    let p = fields::put_number(b" payload=", payload, out, p);
-    let p = text::put_text(b" target=", out, p);
+    let words = [n, times, payload];
+    let p = forms::put_form(
+        b"n=# out=burst times=# payload=# target=",
+        &words,
+        b"",
+        out,
+        at,
+    );
     let p = put_targets(targets, out, p);
     text::put_byte(b'\n', out, p)
 }
@@ -143,8 +150,8 @@ pub fn put_close(n: u64, conn: ConnectionId, out: &mut [u8], at: usize) -> usize
     ensures bytes { λ r. ⌜ now (out .exit) ≡ printed (now (out .entry)) at (closeText n conn) ⌝ }
     ensures place { λ r. ⌜ r ≡ behind (now (out .entry)) at (closeText n conn) ⌝ }
 {
-    let p = fields::put_number(b"n=", n, out, at);
-    let p = fields::put_number(b" out=close conn=", conn.0, out, p);
+    let words = [n, conn.0];
+    let p = forms::put_form(b"n=# out=close conn=#", &words, b"", out, at);
     text::put_byte(b'\n', out, p)
 }
 
@@ -159,22 +166,9 @@ pub fn put_upgrade(
     ensures bytes { λ r. ⌜ now (out .exit) ≡ printed (now (out .entry)) at (upgradeText n peer old new) ⌝ }
     ensures place { λ r. ⌜ r ≡ behind (now (out .entry)) at (upgradeText n peer old new) ⌝ }
 {
-    let p = fields::put_number(b"n=", n, out, at);
-    let p = fields::put_number(b" out=upgrade peer=", peer.0, out, p);
-    let p = fields::put_number(b" old=", old.0, out, p);
-    let p = fields::put_number(b" new=", new.0, out, p);
+    let words = [n, peer.0, old.0, new.0];
+    let p = forms::put_form(b"n=# out=upgrade peer=# old=# new=#", &words, b"", out, at);
     text::put_byte(b'\n', out, p)
-}
-
-fn put_path_word(path: Path, out: &mut [u8], at: usize) -> usize
-    ensures bytes { λ r. ⌜ now (out .exit) ≡ printed (now (out .entry)) at (pathWord path) ⌝ }
-    ensures place { λ r. ⌜ r ≡ behind (now (out .entry)) at (pathWord path) ⌝ }
-{
-    match path {
-        Path::Relayed { relay: _ } => text::put_text(b"relayed", out, at),
-        Path::Punched => text::put_text(b"punched", out, at),
-        Path::Direct => text::put_text(b"direct", out, at),
-    }
 }
 
 pub fn put_owner_word(owner: Owner, out: &mut [u8], at: usize) -> usize
@@ -188,26 +182,71 @@ pub fn put_owner_word(owner: Owner, out: &mut [u8], at: usize) -> usize
     }
 }
 
+// The place of a path's word.
+fn path_place(path: Path) -> u64
+    ensures { λ r. ⌜ r ≡ pathPlace path ⌝ }
+{
+    match path {
+        Path::Relayed { relay: _ } => 0,
+        Path::Punched => 1,
+        Path::Direct => 2,
+    }
+}
+
+// The place of the word for no path.
+const NO_PATH: u64 = 3;
+
+// A connection of an attempt.
+fn put_owned(n: u64, place: u64, id: u64, out: &mut [u8], at: usize) -> usize
+    ensures bytes { λ r. ⌜ now (out .exit) ≡ printed (now (out .entry)) at (lineText ownedForm (number n ∷ word place ∷ number id ∷ [])) ⌝ }
+    ensures place { λ r. ⌜ r ≡ behind (now (out .entry)) at (lineText ownedForm (number n ∷ word place ∷ number id ∷ [])) ⌝ }
+{
+    let words = [n, place, id];
+    let p = forms::put_form(
+        b"n=# out=attributed path=(relayed/punched/direct/none) owner=#",
+        &words,
+        b"",
+        out,
+        at,
+    );
+    text::put_byte(b'\n', out, p)
+}
+
+// One of no attempt.
+fn put_named(n: u64, place: u64, owner: u64, out: &mut [u8], at: usize) -> usize
+    ensures bytes { λ r. ⌜ now (out .exit) ≡ printed (now (out .entry)) at (lineText namedForm (number n ∷ word place ∷ word owner ∷ [])) ⌝ }
+    ensures place { λ r. ⌜ r ≡ behind (now (out .entry)) at (lineText namedForm (number n ∷ word place ∷ word owner ∷ [])) ⌝ }
+{
+    let words = [n, place, owner];
+    let p = forms::put_form(
+        b"n=# out=attributed path=(relayed/punched/direct/none) owner=(inbound/none)",
+        &words,
+        b"",
+        out,
+        at,
+    );
+    text::put_byte(b'\n', out, p)
+}
+
+fn put_owner(n: u64, place: u64, owner: Owner, out: &mut [u8], at: usize) -> usize
+    ensures bytes { λ r. ⌜ now (out .exit) ≡ printed (now (out .entry)) at (ownedText n place owner) ⌝ }
+    ensures place { λ r. ⌜ r ≡ behind (now (out .entry)) at (ownedText n place owner) ⌝ }
+{
+    match owner {
+        Owner::Attempt(id) => put_owned(n, place, id.0, out, at),
+        Owner::Inbound => put_named(n, place, 0, out, at),
+        Owner::None => put_named(n, place, 1, out, at),
+    }
+}
+
 fn put_attribution(n: u64, found: Attribution, out: &mut [u8], at: usize) -> usize
     ensures bytes { λ r. ⌜ now (out .exit) ≡ printed (now (out .entry)) at (attributionText n found) ⌝ }
     ensures place { λ r. ⌜ r ≡ behind (now (out .entry)) at (attributionText n found) ⌝ }
 {
     let path = found.path;
     let owner = found.owner;
-    let p = fields::put_number(b"n=", n, out, at);
-    let p = text::put_text(b" out=attributed path=", out, p);
-    let p = put_path_word(path, out, p);
-    let p = text::put_text(b" owner=", out, p);
-    let p = put_owner_word(owner, out, p);
-    text::put_byte(b'\n', out, p)
-}
-
-fn put_unattributed(n: u64, out: &mut [u8], at: usize) -> usize
-    ensures bytes { λ r. ⌜ now (out .exit) ≡ printed (now (out .entry)) at (unattributedText n) ⌝ }
-    ensures place { λ r. ⌜ r ≡ behind (now (out .entry)) at (unattributedText n) ⌝ }
-{
-    let p = fields::put_number(b"n=", n, out, at);
-    text::put_text(b" out=attributed path=none owner=none\n", out, p)
+    let place = path_place(path);
+    put_owner(n, place, owner, out, at)
 }
 
 pub fn put_attributed(n: u64, found: FoundPath, out: &mut [u8], at: usize) -> usize
@@ -216,7 +255,7 @@ pub fn put_attributed(n: u64, found: FoundPath, out: &mut [u8], at: usize) -> us
 {
     match found {
         FoundPath::At(a) => put_attribution(n, a, out, at),
-        FoundPath::None => put_unattributed(n, out, at),
+        FoundPath::None => put_owner(n, NO_PATH, Owner::None, out, at),
     }
 }
 
@@ -224,9 +263,8 @@ pub fn put_refused(n: u64, refusal: Refusal, out: &mut [u8], at: usize) -> usize
     ensures bytes { λ r. ⌜ now (out .exit) ≡ printed (now (out .entry)) at (refusedText n refusal) ⌝ }
     ensures place { λ r. ⌜ r ≡ behind (now (out .entry)) at (refusedText n refusal) ⌝ }
 {
-    let why = refusal.number();
-    let p = fields::put_number(b"n=", n, out, at);
-    let p = fields::put_number(b" out=refused why=", why, out, p);
+    let words = [n, refusal.number()];
+    let p = forms::put_form(b"n=# out=refused why=#", &words, b"", out, at);
     text::put_byte(b'\n', out, p)
 }
 

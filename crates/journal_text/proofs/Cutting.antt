@@ -14,7 +14,8 @@ use Rattle.text.specs.Words.{lengthBefore}
 use Rattle.lines.proofs.Feeds.{joined}
 use Rattle.journal_lines.specs.declared.Line.the-variants.{Unknown}
 use Rattle.lines.specs.Lines.{longest}
-use Rattle.journal_turns.specs.Turns.{Journal, read, turnOf, lineTurn}
+use Rattle.journal_calls.specs.Calls.{Journal}
+use Rattle.journal_turns.specs.Turns.{read, turnOf, lineTurn}
 use Rattle.journal_text.specs.Texts.{firstOf}
 use Rattle.journal_text.specs.Journals.{cut, linesOf, LineByLine, LongLinesAreOne}
 

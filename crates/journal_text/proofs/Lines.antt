@@ -8,7 +8,8 @@ use lib.ListN.{length, take, drop, length-append, length-take}
 use lib.Seq.{sets-eq, take-at}
 use Rattle.text.specs.Printed.{printed, behind}
 use Rattle.journal_prints.specs.Room.{room}
-use Rattle.journal_turns.specs.Turns.{Journal, Turned, lineTurn}
+use Rattle.journal_calls.specs.Calls.{Journal, Turned}
+use Rattle.journal_turns.specs.Turns.{lineTurn}
 use Rattle.journal_text.specs.Texts.{turnText, lineText}
 
 whole : (o : List ℕ) (p : ℕ) (t : List ℕ) {x : List ℕ} {q : ℕ} → x ≡ printed o p t → q ≡ behind o p t

@@ -15,8 +15,8 @@ use Rattle.journal_prints.specs.Outputs.{attributedText}
 use Rattle.journal_prints.specs.Room.{room, OwnerFits, isAttributed, isUnattributed, isRefused}
 use Rattle.journal_prints.proofs.Room.{short}
 use Rattle.journal_effects.specs.declared.Effects.{Effects}
-use Rattle.journal_turns.specs.declared.Said.{Said}
-use Rattle.journal_turns.specs.declared.Said.the-variants.{Refused}
+use Rattle.journal_calls.specs.declared.Said.{Said}
+use Rattle.journal_calls.specs.declared.Said.the-variants.{Refused}
 use Rattle.journal_text.specs.Texts.{saidText}
 use Rattle.path.specs.declared.FoundPath.the-variants as found
 

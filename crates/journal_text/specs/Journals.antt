@@ -10,7 +10,8 @@ use Rattle.text.specs.Words.{lengthBefore}
 use Rattle.wire.specs.Frame.{maxFrameSize}
 use Rattle.journal_lines.specs.declared.First.{First}
 use Rattle.lines.specs.Lines.{longest}
-use Rattle.journal_turns.specs.Turns.{Journal, lineTurn}
+use Rattle.journal_calls.specs.Calls.{Journal}
+use Rattle.journal_turns.specs.Turns.{lineTurn}
 use Rattle.journal_text.specs.Texts.{firstOf, isGood, opened, openingText, lineText}
 
 -- the first n lines of an input, each without its line feed, and whether it has one (section 12.1): a line goes up to its line feed, the

@@ -13,10 +13,11 @@ use Rattle.journal_prints.specs.Outputs.{attributedText, refusedText}
 use Rattle.journal_effects.specs.Effects.{effectsText}
 use Rattle.journal_effects.specs.declared.Effects.{Effects}
 use Rattle.lines.specs.Lines.{longest}
-use Rattle.journal_turns.specs.Turns.{Journal, Turned, newJournal, lineTurn}
-use Rattle.journal_turns.specs.declared.Said.{Said}
+use Rattle.journal_calls.specs.Calls.{Journal, Turned, newJournal}
+use Rattle.journal_turns.specs.Turns.{lineTurn}
+use Rattle.journal_calls.specs.declared.Said.{Said}
 use Rattle.journal_lines.specs.declared.First.the-variants as first
-use Rattle.journal_turns.specs.declared.Said.the-variants as said
+use Rattle.journal_calls.specs.declared.Said.the-variants as said
 
 -- ---- the first line (section 12.4)
 
@@ -25,22 +26,12 @@ unfoldable pub firstOf : List ℕ → Bool → First
 firstOf line ended = pick (both ended (ltb (length line) longest)) (settingsOf line) first.Unknown
 
 abbrev pub isGood : First → Bool
-isGood (first.Settings handshake upgrade exchange punch interval payload private upgrades) = true
+isGood (first.Settings s) = true
 isGood first.Unknown = false
 
 -- the settings of every circuit; where there are none the program ends and none is used
 abbrev pub settingsIn : First → Settings
-settingsIn (first.Settings handshake upgrade exchange punch interval payload private upgrades) =
-    record {
-      handshake = handshake;
-      upgrade = upgrade;
-      exchange = exchange;
-      punch = punch;
-      interval = interval;
-      payload = payload;
-      private = private;
-      upgrades = upgrades;
-    }
+settingsIn (first.Settings s) = s
 settingsIn first.Unknown =
     record { handshake = 0; upgrade = 0; exchange = 0; punch = 0; interval = 0; payload = 0; private = false; upgrades = false }
 
@@ -49,7 +40,7 @@ opened f = newJournal (settingsIn f)
 
 -- a good first line prints nothing, any other n=0 and 11
 abbrev pub openingText : First → List ℕ
-openingText (first.Settings handshake upgrade exchange punch interval payload private upgrades) = []
+openingText (first.Settings s) = []
 openingText first.Unknown = refusedText 0 UnknownLine
 
 -- ---- the lines behind it (section 12.7)

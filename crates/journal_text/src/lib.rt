@@ -1,10 +1,10 @@
 // What a journal prints, line by line: each line in, its output lines behind what a lent buffer holds already. What the buffer has no
 // room for is left out.
 use frames::FrameBytes;
+use journal_calls::Said;
+use journal_calls::State;
 use journal_effects::Effects;
 use journal_lines::First;
-use journal_turns::Said;
-use journal_turns::State;
 use ledger::Ledger;
 use lent::TargetBytes;
 use path::FoundPath;
@@ -19,7 +19,8 @@ ghost use Rattle.text.specs.Printed.{printed, behind};
 ghost use Rattle.journal_prints.specs.Outputs.{attributedText};
 ghost use Rattle.journal_prints.specs.Room.{room, OwnerFits};
 ghost use Rattle.ledger.specs.Ledger.{tablesOf};
-ghost use Rattle.journal_turns.specs.Turns.{whole, stateOf, lineTurn};
+ghost use Rattle.journal_calls.specs.Calls.{whole, stateOf};
+ghost use Rattle.journal_turns.specs.Turns.{lineTurn};
 ghost use Rattle.journal_text.specs.Texts.{firstOf, isGood, settingsIn, opened, openingText, saidText, lineText};
 
 // ---- the first line
@@ -47,39 +48,17 @@ fn settings_in(first: First) -> Settings
     ensures { λ r. ⌜ r ≡ settingsIn first ⌝ }
 {
     match first {
-        First::Settings {
-            handshake,
-            upgrade,
-            exchange,
-            punch,
-            interval,
-            payload,
-            private,
-            upgrades,
-        } => {
-            return Settings {
-                handshake: handshake,
-                upgrade: upgrade,
-                exchange: exchange,
-                punch: punch,
-                interval: interval,
-                payload: payload,
-                private: private,
-                upgrades: upgrades,
-            };
-        }
-        First::Unknown => {
-            return Settings {
-                handshake: 0,
-                upgrade: 0,
-                exchange: 0,
-                punch: 0,
-                interval: 0,
-                payload: 0,
-                private: false,
-                upgrades: false,
-            };
-        }
+        First::Settings(settings) => settings,
+        First::Unknown => Settings {
+            handshake: 0,
+            upgrade: 0,
+            exchange: 0,
+            punch: 0,
+            interval: 0,
+            payload: 0,
+            private: false,
+            upgrades: false,
+        },
     }
 }
 
@@ -95,7 +74,7 @@ pub fn open_journal(line: &[u8], ended: bool, out: &mut [u8], at: usize) -> Open
     let settings = settings_in(first);
     let state = journal_turns::new_journal(settings);
     match first {
-        First::Settings { .. } => {
+        First::Settings(_) => {
             return Opening {
                 good: true,
                 state: state,

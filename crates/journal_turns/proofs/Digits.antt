@@ -12,8 +12,7 @@ use Rattle.prelude.specs.Choice.{pick}
 use Rattle.text.specs.Hexadecimal.{digitValue, isPair, bytesOf}
 use Rattle.text.specs.Printed.{printed, behind}
 use Rattle.text.proofs.Printing.{laid, parts, laid-none, length-kept, fits, fits-place}
-use Rattle.lines.specs.Lines.{longest}
-use Rattle.fields.specs.Fields.{part}
+use Rattle.forms.specs.Texts.{part}
 
 -- two digits make a byte
 bytes-half : (s : List ℕ) → 2 * length (bytesOf s) ≤ length s

@@ -1,70 +1,36 @@
 // What a journal's lines do, one after the other. The journal's numbers go in by value and come back with what is to be said; its bytes are
 // lent: the circuit's CONNECT and targets, the message that goes out, the ledger, and the reply buffer.
-use circuit::decision;
-use circuit::decision::Decision;
 use circuit::state::Core;
-use fields::Maybe;
-use fields::Pair;
 use frames::FrameBytes;
-use ids::ConnectId;
 use ids::ConnectionId;
-use ids::NatToken;
 use ids::PeerId;
 use ids::StreamId;
-use journal_effects::Effects;
+use journal_calls::Said;
+use journal_calls::State;
+use journal_calls::Turn;
 use journal_lines::Digits;
-use journal_lines::Kind;
 use journal_lines::Line;
 use ledger::Ledger;
 use lent::TargetBytes;
-use path::Claim;
-use path::DialPurpose;
-use path::FoundPath;
 use refusal::Refusal;
-use vocabulary::Effect;
 use vocabulary::Host;
 use vocabulary::Live;
 use vocabulary::Offer;
-use vocabulary::Outcome;
 use vocabulary::Settings;
 use vocabulary::StreamInput;
 ghost use mathlib.Core.Path.{_≡_};
 ghost use Prim.Native.Nat.{_<_};
 ghost use lib.ListN.{length, replicate};
 ghost use Rattle.text.specs.Printed.{printed, behind};
-ghost use Rattle.path.specs.declared.DialPurpose.the-variants.{Punch};
-ghost use Rattle.ledger.specs.Ledger.{tablesOf, laid, dialStarted, forgotten, attributed};
+ghost use Rattle.ledger.specs.Ledger.{tablesOf, laid};
 ghost use Rattle.circuit.specs.State.{termsOf};
-ghost use Rattle.lent.specs.Carried.{sentAfter, ledgerAfter, connectAfter, noFrame, noAims};
-ghost use Rattle.circuit.specs.Calls.{startedOf, wroteOf, downOf};
+ghost use Rattle.lent.specs.Carried.{sentAfter, ledgerAfter, connectAfter};
 ghost use Rattle.lent.specs.Calls.{upOf, tickOf};
 ghost use Rattle.lines.specs.Lines.{longest};
-ghost use Rattle.journal_turns.specs.Turns.{whole, stateOf, turned, noEffects, newJournal, saying, effectsOf, settledIn, digitsBytes, liveOf, offerOf, hostOf, inputOf, startedIn, clearedBy, inputTurn, expired, claimFor, saidOf, namedAs, needsStart, callTurn, turnOf, lineTurn};
+ghost use Rattle.journal_calls.specs.Calls.{whole, stateOf, turned, newJournal, settledIn, inputTurn, expired};
+ghost use Rattle.journal_turns.specs.Turns.{digitsBytes, hostOf, needsStart, callTurn, turnOf, lineTurn};
 
 // ---- the state
-
-// The journal, but for its bytes. Before a start was accepted `core` stands in for none, and no line reaches it.
-pub struct State {
-    // The lines so far, without the first.
-    pub n: u64,
-    pub begun: bool,
-    pub settings: Settings,
-    pub core: Core,
-}
-
-// An accepted call says its effects, or how a connection was named.
-pub enum Said {
-    Effects,
-    Attributed(FoundPath),
-    Refused(Refusal),
-}
-
-// The journal after a line, and what is said of the line.
-pub struct Turn {
-    pub state: State,
-    pub said: Said,
-    pub effects: Effects,
-}
 
 // Its bytes and its ledger's words are zeros.
 pub fn new_journal(settings: Settings) -> State
@@ -77,75 +43,6 @@ pub fn new_journal(settings: Settings) -> State
         begun: false,
         settings: settings,
         core: core,
-    }
-}
-
-// ---- what is said
-
-fn no_effects() -> Effects
-    ensures { λ r. ⌜ r ≡ noEffects ⌝ }
-{
-    Effects {
-        first: Effect::Nothing,
-        second: Effect::Nothing,
-        third: Effect::Nothing,
-        fourth: Effect::Nothing,
-        message: 0,
-        targets: 0,
-        took: false,
-    }
-}
-
-fn say(j: State, said: Said) -> Turn
-    ensures { λ r. ⌜ r ≡ saying j said ⌝ }
-{
-    let effects = no_effects();
-    Turn {
-        state: j,
-        said: said,
-        effects: effects,
-    }
-}
-
-fn effects_of(d: Decision) -> Effects
-    ensures { λ r. ⌜ r ≡ effectsOf d ⌝ }
-{
-    let core = d.core;
-    let first = d.first;
-    let second = d.second;
-    let third = d.third;
-    let fourth = d.fourth;
-    let message = d.message;
-    let size = decision::message_size(message);
-    Effects {
-        first: first,
-        second: second,
-        third: third,
-        fourth: fourth,
-        message: size,
-        targets: core.targets,
-        took: d.took,
-    }
-}
-
-// What the circuit decided.
-fn settle(j: State, d: Decision) -> Turn
-    ensures { λ r. ⌜ r ≡ settledIn j d (d .outcome) ⌝ }
-{
-    let outcome = d.outcome;
-    let core = d.core;
-    match outcome {
-        Outcome::Refused(why) => {
-            return say(j, Said::Refused(why));
-        }
-        Outcome::Accepted => {
-            let effects = effects_of(d);
-            return Turn {
-                state: State { core: core, ..j },
-                said: Said::Effects,
-                effects: effects,
-            };
-        }
     }
 }
 
@@ -174,126 +71,27 @@ fn zeros() -> Bytes
 }
 
 // Few lines are longer than this. The bytes of the others need less room, and to clear the room for any line takes as long as all else.
-const SHORT: usize = 4096;
+const SHORT: usize = 1024;
 
 type FewBytes = [u8; SHORT / 2];
 
 fn few_zeros() -> FewBytes
-    ensures { λ r. ⌜ r ≡ replicate 2048 0 ⌝ }
+    ensures { λ r. ⌜ r ≡ replicate 512 0 ⌝ }
 {
     [0u8; SHORT / 2]
 }
 
-fn live_of(live: Maybe) -> Live
-    ensures { λ r. ⌜ r ≡ liveOf live ⌝ }
-{
-    match live {
-        Maybe::Number(v) => Live::On(ConnectionId(v)),
-        Maybe::None => Live::Nothing,
-    }
-}
-
-fn offer_of(offer: Pair) -> Offer
-    ensures { λ r. ⌜ r ≡ offerOf offer ⌝ }
-{
-    match offer {
-        Pair::Numbers { first, second } => Offer::Stream(ConnectionId(first), StreamId(second)),
-        Pair::None => Offer::Nothing,
-    }
-}
-
-fn host_at(at: u64, live: Maybe, offer: Pair) -> Host
+fn host_at(at: u64, live: Live, offer: Offer) -> Host
     ensures { λ r. ⌜ r ≡ hostOf at live offer ⌝ }
 {
-    let on = live_of(live);
-    let offered = offer_of(offer);
     Host {
         at: at,
-        live: on,
-        offer: offered,
-    }
-}
-
-fn input_of(kind: Kind) -> StreamInput
-    ensures { λ r. ⌜ r ≡ inputOf kind ⌝ }
-{
-    match kind {
-        Kind::Ready => StreamInput::Ready,
-        Kind::Data => StreamInput::Data,
-        Kind::End => StreamInput::RemoteWriteClosed,
-        Kind::Closed => StreamInput::Closed,
+        live: live,
+        offer: offer,
     }
 }
 
 // ---- the calls
-
-// An accepted start puts a circuit in place of the one before; the ledger stays.
-fn start_turn(
-    j: State,
-    connect: &mut FrameBytes,
-    targets: &mut TargetBytes,
-    at: u64,
-    source: PeerId,
-    relay: PeerId,
-    circuit: ConnectionId,
-) -> Turn
-    ensures turn { λ r. ⌜ r ≡ startedIn j (startedOf source relay circuit (j .settings) at) (startedOf source relay circuit (j .settings) at .outcome) ⌝ }
-    ensures connect { λ r. ⌜ now (connect .exit) ≡ clearedBy (startedOf source relay circuit (j .settings) at .outcome) noFrame (now (connect .entry)) ⌝ }
-    ensures targets { λ r. ⌜ now (targets .exit) ≡ clearedBy (startedOf source relay circuit (j .settings) at .outcome) noAims (now (targets .entry)) ⌝ }
-{
-    let settings = j.settings;
-    let d = Core::new(source, relay, circuit, settings, at);
-    let outcome = d.outcome;
-    let core = d.core;
-    match outcome {
-        Outcome::Refused(why) => {
-            return say(j, Said::Refused(why));
-        }
-        Outcome::Accepted => {
-            lent::calls::clear(connect, targets);
-            return say(
-                State {
-                    begun: true,
-                    core: core,
-                    ..j
-                },
-                Said::Effects,
-            );
-        }
-    }
-}
-
-fn up_turn(
-    j: State,
-    connect: &mut FrameBytes,
-    sent: &mut FrameBytes,
-    ledger: &mut Ledger,
-    host: Host,
-    own: &[u8],
-    peer: PeerId,
-    conn: ConnectionId,
-    circuit: bool,
-) -> Turn
-    ensures turn { λ r. ⌜ r ≡ settledIn j (upOf (j .core) host (now (own .entry)) peer conn circuit) (upOf (j .core) host (now (own .entry)) peer conn circuit .outcome) ⌝ }
-    ensures connect { λ r. ⌜ now (connect .exit) ≡ connectAfter (termsOf (j .core .settings)) (now (own .entry)) (now (connect .entry)) (upOf (j .core) host (now (own .entry)) peer conn circuit .fourth) ⌝ }
-    ensures sent { λ r. ⌜ now (sent .exit) ≡ sentAfter (now (connect .entry)) (now (sent .entry)) (upOf (j .core) host (now (own .entry)) peer conn circuit .message) ⌝ }
-    ensures tables { λ r. ⌜ tablesOf (now (ledger .exit)) ≡ ledgerAfter (j .core .source) (tablesOf (now (ledger .entry))) (upOf (j .core) host (now (own .entry)) peer conn circuit .window) ⌝ }
-    ensures words { λ r. ⌜ now (ledger .exit) ≡ laid (ledgerAfter (j .core .source) (tablesOf (now (ledger .entry))) (upOf (j .core) host (now (own .entry)) peer conn circuit .window)) (now (ledger .entry)) ⌝ }
-{
-    let core = j.core;
-    let d = lent::calls::on_connection_established(
-        core,
-        connect,
-        sent,
-        ledger,
-        host,
-        own,
-        peer,
-        conn,
-        circuit,
-    );
-    settle(j, d)
-}
 
 fn up_line(
     line: &[u8],
@@ -302,8 +100,8 @@ fn up_line(
     sent: &mut FrameBytes,
     ledger: &mut Ledger,
     at: u64,
-    live: Maybe,
-    offer: Pair,
+    live: Live,
+    offer: Offer,
     own: Digits,
     peer: PeerId,
     conn: ConnectionId,
@@ -320,7 +118,7 @@ fn up_line(
     if line.len() < SHORT {
         let mut few = few_zeros();
         let m = read_digits(line, own, &mut few);
-        return up_turn(
+        return journal_calls::up_turn(
             j,
             connect,
             sent,
@@ -334,7 +132,7 @@ fn up_line(
     }
     let mut list = zeros();
     let n = read_digits(line, own, &mut list);
-    up_turn(
+    journal_calls::up_turn(
         j,
         connect,
         sent,
@@ -347,43 +145,6 @@ fn up_line(
     )
 }
 
-fn input_turn(
-    j: State,
-    connect: &mut FrameBytes,
-    targets: &mut TargetBytes,
-    sent: &mut FrameBytes,
-    ledger: &mut Ledger,
-    reply: &mut [u8],
-    host: Host,
-    own: &[u8],
-    stream: StreamId,
-    kind: Kind,
-    bytes: &[u8],
-    pending: bool,
-) -> Turn
-    ensures turn { λ r. ⌜ turned r (now (connect .exit)) (now (targets .exit)) (tablesOf (now (ledger .exit))) (now (ledger .exit)) (now (sent .exit)) ≡ inputTurn (whole j (now (connect .entry)) (now (targets .entry)) (tablesOf (now (ledger .entry))) (now (ledger .entry)) (now (sent .entry))) host (now (own .entry)) (now (reply .entry)) stream kind (now (bytes .entry)) pending .turn ⌝ }
-    ensures reply { λ r. ⌜ now (reply .exit) ≡ inputTurn (whole j (now (connect .entry)) (now (targets .entry)) (tablesOf (now (ledger .entry))) (now (ledger .entry)) (now (sent .entry))) host (now (own .entry)) (now (reply .entry)) stream kind (now (bytes .entry)) pending .reply ⌝ }
-{
-    rows::known(ledger);
-    let core = j.core;
-    let input = input_of(kind);
-    let d = lent::calls::on_dcutr_stream_input(
-        core,
-        connect,
-        targets,
-        sent,
-        ledger,
-        reply,
-        host,
-        own,
-        stream,
-        input,
-        bytes,
-        pending,
-    );
-    settle(j, d)
-}
-
 fn input_line(
     line: &[u8],
     j: State,
@@ -393,11 +154,11 @@ fn input_line(
     ledger: &mut Ledger,
     reply: &mut [u8],
     at: u64,
-    live: Maybe,
-    offer: Pair,
+    live: Live,
+    offer: Offer,
     own: Digits,
     stream: StreamId,
-    kind: Kind,
+    kind: StreamInput,
     bytes: Digits,
     pending: bool,
 ) -> Turn
@@ -411,7 +172,7 @@ fn input_line(
         let m = read_digits(line, own, &mut few);
         let mut brought = few_zeros();
         let l = read_digits(line, bytes, &mut brought);
-        return input_turn(
+        return journal_calls::input_turn(
             j,
             connect,
             targets,
@@ -430,7 +191,7 @@ fn input_line(
     let n = read_digits(line, own, &mut list);
     let mut heard = zeros();
     let k = read_digits(line, bytes, &mut heard);
-    input_turn(
+    journal_calls::input_turn(
         j,
         connect,
         targets,
@@ -446,38 +207,6 @@ fn input_line(
     )
 }
 
-// The ledger ticks behind the circuit, where the circuit's tick is accepted.
-fn expire(outcome: Outcome, ledger: &mut Ledger, at: u64)
-    ensures tables { λ _. ⌜ tablesOf (now (ledger .exit)) ≡ expired outcome (tablesOf (now (ledger .entry))) at ⌝ }
-    ensures words { λ _. ⌜ now (ledger .exit) ≡ laid (expired outcome (tablesOf (now (ledger .entry))) at) (now (ledger .entry)) ⌝ }
-{
-    match outcome {
-        Outcome::Accepted => ledger::on_tick(ledger, at),
-        Outcome::Refused(_) => rows::known(ledger),
-    }
-}
-
-fn tick_turn(
-    j: State,
-    connect: &mut FrameBytes,
-    sent: &mut FrameBytes,
-    ledger: &mut Ledger,
-    host: Host,
-    own: &[u8],
-) -> Turn
-    ensures turn { λ r. ⌜ r ≡ settledIn j (tickOf (j .core) host (now (own .entry))) (tickOf (j .core) host (now (own .entry)) .outcome) ⌝ }
-    ensures connect { λ r. ⌜ now (connect .exit) ≡ connectAfter (termsOf (j .core .settings)) (now (own .entry)) (now (connect .entry)) (tickOf (j .core) host (now (own .entry)) .fourth) ⌝ }
-    ensures sent { λ r. ⌜ now (sent .exit) ≡ sentAfter (now (connect .entry)) (now (sent .entry)) (tickOf (j .core) host (now (own .entry)) .message) ⌝ }
-    ensures tables { λ r. ⌜ tablesOf (now (ledger .exit)) ≡ expired (tickOf (j .core) host (now (own .entry)) .outcome) (ledgerAfter (j .core .source) (tablesOf (now (ledger .entry))) (tickOf (j .core) host (now (own .entry)) .window)) (host .at) ⌝ }
-    ensures words { λ r. ⌜ now (ledger .exit) ≡ laid (expired (tickOf (j .core) host (now (own .entry)) .outcome) (ledgerAfter (j .core .source) (tablesOf (now (ledger .entry))) (tickOf (j .core) host (now (own .entry)) .window)) (host .at)) (laid (ledgerAfter (j .core .source) (tablesOf (now (ledger .entry))) (tickOf (j .core) host (now (own .entry)) .window)) (now (ledger .entry))) ⌝ }
-{
-    let core = j.core;
-    let d = lent::calls::on_tick(core, connect, sent, ledger, host, own);
-    let outcome = d.outcome;
-    expire(outcome, ledger, host.at);
-    settle(j, d)
-}
-
 fn tick_line(
     line: &[u8],
     j: State,
@@ -485,8 +214,8 @@ fn tick_line(
     sent: &mut FrameBytes,
     ledger: &mut Ledger,
     at: u64,
-    live: Maybe,
-    offer: Pair,
+    live: Live,
+    offer: Offer,
     own: Digits,
 ) -> Turn
     requires { ⌜ length (now line) < longest ⌝ }
@@ -500,94 +229,11 @@ fn tick_line(
     if line.len() < SHORT {
         let mut few = few_zeros();
         let m = read_digits(line, own, &mut few);
-        return tick_turn(j, connect, sent, ledger, host, &few[..m]);
+        return journal_calls::tick_turn(j, connect, sent, ledger, host, &few[..m]);
     }
     let mut list = zeros();
     let n = read_digits(line, own, &mut list);
-    tick_turn(j, connect, sent, ledger, host, &list[..n])
-}
-
-fn wrote_turn(j: State, at: u64, conn: ConnectionId, stream: StreamId) -> Turn
-    ensures { λ r. ⌜ r ≡ settledIn j (wroteOf (j .core) at conn stream) (wroteOf (j .core) at conn stream .outcome) ⌝ }
-{
-    let core = j.core;
-    settle(j, core.on_write_completed(at, conn, stream))
-}
-
-fn down_turn(j: State, conn: ConnectionId) -> Turn
-    ensures { λ r. ⌜ r ≡ settledIn j (downOf (j .core) conn) (downOf (j .core) conn .outcome) ⌝ }
-{
-    let core = j.core;
-    settle(j, core.on_connection_closed(conn))
-}
-
-fn dial_turn(
-    j: State,
-    ledger: &mut Ledger,
-    conn: ConnectionId,
-    token: NatToken,
-    id: ConnectId,
-) -> Turn
-    ensures turn { λ r. ⌜ r ≡ saying j (saidOf (dialStarted (tablesOf (now (ledger .entry))) conn token (Punch id) .outcome)) ⌝ }
-    ensures tables { λ r. ⌜ tablesOf (now (ledger .exit)) ≡ dialStarted (tablesOf (now (ledger .entry))) conn token (Punch id) .ledger ⌝ }
-    ensures words { λ r. ⌜ now (ledger .exit) ≡ laid (dialStarted (tablesOf (now (ledger .entry))) conn token (Punch id) .ledger) (now (ledger .entry)) ⌝ }
-{
-    let outcome = ledger::dial_started(ledger, conn, token, DialPurpose::Punch(id));
-    match outcome {
-        Outcome::Refused(why) => {
-            return say(j, Said::Refused(why));
-        }
-        Outcome::Accepted => {
-            return say(j, Said::Effects);
-        }
-    }
-}
-
-fn forget_turn(j: State, ledger: &mut Ledger, conn: ConnectionId) -> Turn
-    ensures turn { λ r. ⌜ r ≡ saying j (Said.Effects) ⌝ }
-    ensures tables { λ r. ⌜ tablesOf (now (ledger .exit)) ≡ forgotten (tablesOf (now (ledger .entry))) conn .ledger ⌝ }
-    ensures words { λ r. ⌜ now (ledger .exit) ≡ laid (forgotten (tablesOf (now (ledger .entry))) conn .ledger) (now (ledger .entry)) ⌝ }
-{
-    ledger::forget(ledger, conn);
-    say(j, Said::Effects)
-}
-
-// Only a circuit carries the circuit's claim.
-fn claim_for(c: Core, conn: ConnectionId, circuit: bool) -> Claim
-    ensures { λ r. ⌜ r ≡ claimFor c conn circuit ⌝ }
-{
-    if circuit {
-        return c.circuit_claim(conn);
-    }
-    Claim::None
-}
-
-fn attribute_turn(
-    j: State,
-    ledger: &mut Ledger,
-    at: u64,
-    peer: PeerId,
-    conn: ConnectionId,
-    circuit: bool,
-) -> Turn
-    ensures turn { λ r. ⌜ r ≡ saying j (namedAs (attributed (tablesOf (now (ledger .entry))) conn peer circuit (claimFor (j .core) conn circuit) at .answer)) ⌝ }
-    ensures tables { λ r. ⌜ tablesOf (now (ledger .exit)) ≡ attributed (tablesOf (now (ledger .entry))) conn peer circuit (claimFor (j .core) conn circuit) at .ledger ⌝ }
-    ensures words { λ r. ⌜ now (ledger .exit) ≡ laid (attributed (tablesOf (now (ledger .entry))) conn peer circuit (claimFor (j .core) conn circuit) at .ledger) (now (ledger .entry)) ⌝ }
-{
-    let core = j.core;
-    let claim = claim_for(core, conn, circuit);
-    let answer = ledger::attribute(ledger, conn, peer, circuit, claim, at);
-    match answer {
-        ledger::Answer::Path(found) => {
-            return say(j, Said::Attributed(FoundPath::At(found)));
-        }
-        ledger::Answer::None => {
-            return say(j, Said::Attributed(FoundPath::None));
-        }
-        ledger::Answer::Refused(why) => {
-            return say(j, Said::Refused(why));
-        }
-    }
+    journal_calls::tick_turn(j, connect, sent, ledger, host, &list[..n])
 }
 
 // ---- a line
@@ -631,7 +277,7 @@ fn make_call(
             source,
             relay,
             circuit,
-        } => return start_turn(j, connect, targets, at, source, relay, circuit),
+        } => return journal_calls::start_turn(j, connect, targets, at, source, relay, circuit),
         Line::Up {
             at,
             peer,
@@ -693,22 +339,22 @@ fn make_call(
         } => {
             return tick_line(line, j, connect, sent, ledger, at, live, offer, own);
         }
-        Line::Wrote { at, conn, stream } => return wrote_turn(j, at, conn, stream),
-        Line::Down { conn, .. } => return down_turn(j, conn),
+        Line::Wrote { at, conn, stream } => return journal_calls::wrote_turn(j, at, conn, stream),
+        Line::Down { conn, .. } => return journal_calls::down_turn(j, conn),
         Line::Dial {
             conn,
             token,
             id,
             ..
-        } => return dial_turn(j, ledger, conn, token, id),
-        Line::Forget { conn, .. } => return forget_turn(j, ledger, conn),
+        } => return journal_calls::dial_turn(j, ledger, conn, token, id),
+        Line::Forget { conn, .. } => return journal_calls::forget_turn(j, ledger, conn),
         Line::Attribute {
             at,
             peer,
             conn,
             circuit,
-        } => return attribute_turn(j, ledger, at, peer, conn, circuit),
-        Line::Unknown => return say(j, Said::Refused(Refusal::UnknownLine)),
+        } => return journal_calls::attribute_turn(j, ledger, at, peer, conn, circuit),
+        Line::Unknown => return journal_calls::say(j, Said::Refused(Refusal::UnknownLine)),
     }
 }
 
@@ -730,7 +376,7 @@ fn take_call(
         if j.begun {
             return make_call(line, j, connect, targets, sent, ledger, reply, call);
         }
-        return say(j, Said::Refused(Refusal::NotStarted));
+        return journal_calls::say(j, Said::Refused(Refusal::NotStarted));
     }
     make_call(line, j, connect, targets, sent, ledger, reply, call)
 }
@@ -758,7 +404,7 @@ pub fn take_line(
             let call = journal_lines::read_call(line);
             return take_call(line, next, connect, targets, sent, ledger, reply, call);
         }
-        return say(next, Said::Refused(Refusal::UnknownLine));
+        return journal_calls::say(next, Said::Refused(Refusal::UnknownLine));
     }
-    say(next, Said::Refused(Refusal::UnknownLine))
+    journal_calls::say(next, Said::Refused(Refusal::UnknownLine))
 }

@@ -20,11 +20,11 @@ use Rattle.path.specs.declared.FoundPath.{FoundPath}
 use Rattle.path.specs.declared.FoundPath.the-variants.{At as PathAt, None as NoPath}
 use Rattle.path.specs.declared.Replaced.{Replaced}
 use Rattle.path.specs.Judged.{judged, upgradeOf, punchedAt}
-use Rattle.rows.specs.declared.Entry.the-variants.{Dialed, Window, Path as PathEntry}
-use Rattle.rows.specs.declared.Row.{Row}
+use Rattle.kinds.specs.declared.Entry.the-variants.{Dialed, Window, Path as PathEntry}
+use Rattle.kinds.specs.declared.Row.{Row}
 use Rattle.rows.specs.declared.Table.the-variants.{Dials, Windows, Paths}
 use Rattle.rows.specs.declared.Keep.the-variants.{Lasting}
-use Rattle.rows.specs.Kinds.{rowOf}
+use Rattle.kinds.specs.Kinds.{rowOf}
 use Rattle.rows.specs.Rows.{kept, without, inserted, crowded}
 use Rattle.rows.specs.Words.{rowsOf}
 use Rattle.vocabulary.specs.declared.Deadline.{Deadline}

@@ -10,6 +10,7 @@ use ids::ConnectId;
 use ids::ConnectionId;
 use ids::NatToken;
 use ids::PeerId;
+use kinds::Entry;
 use path::Attribution;
 use path::Claim;
 use path::Dial;
@@ -18,7 +19,6 @@ use path::FoundDial;
 use path::FoundPath;
 use path::Replaced;
 use refusal::Refusal;
-use rows::Entry;
 use rows::Keep;
 use rows::Table;
 use vocabulary::Deadline;
@@ -53,7 +53,7 @@ pub fn dial_started(
 {
     rows::known(l);
     let dial = Dial { token, purpose };
-    if rows::insert(l, Table::Dials, rows::row_of(conn.0, Entry::Dialed(dial))) {
+    if rows::insert(l, Table::Dials, kinds::row_of(conn.0, Entry::Dialed(dial))) {
         return Outcome::Accepted;
     }
     Outcome::Refused(Refusal::LedgerFull)
@@ -97,7 +97,7 @@ pub fn expect_punches(l: &mut Ledger, peer: PeerId, until: u64) -> Outcome
 {
     rows::known(l);
     let end = entries::punch_end(l, peer, until);
-    if rows::insert(l, Table::Windows, rows::row_of(peer.0, Entry::Window(end))) {
+    if rows::insert(l, Table::Windows, kinds::row_of(peer.0, Entry::Window(end))) {
         return Outcome::Accepted;
     }
     Outcome::Refused(Refusal::LedgerFull)
@@ -149,7 +149,7 @@ pub fn attribute(
     if rows::insert(
         l,
         Table::Paths,
-        rows::row_of(conn.0, Entry::Path(attribution)),
+        kinds::row_of(conn.0, Entry::Path(attribution)),
     ) {
         return Answer::Path(attribution);
     }

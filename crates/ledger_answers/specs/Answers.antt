@@ -18,9 +18,9 @@ use Rattle.path.specs.declared.Path.{Path}
 use Rattle.path.specs.declared.DialPurpose.{DialPurpose}
 use Rattle.path.specs.declared.Dial.{Dial}
 use Rattle.path.specs.declared.Attribution.{Attribution}
-use Rattle.rows.specs.declared.Entry.{Entry}
-use Rattle.rows.specs.declared.Row.{Row}
-use Rattle.rows.specs.Kinds.{entryOf}
+use Rattle.kinds.specs.declared.Entry.{Entry}
+use Rattle.kinds.specs.declared.Row.{Row}
+use Rattle.kinds.specs.Kinds.{entryOf}
 use Rattle.dials.specs.declared.Tokens.{Tokens}
 use Rattle.dials.specs.declared.Connections.{Connections}
 use Rattle.ledger.specs.Ledger.{PathLedger}
@@ -28,7 +28,7 @@ use Rattle.ledger_answers.specs.declared.Said.{Said}
 use Rattle.ledger_answers.specs.declared.Said.the-variants.{Done, Refused, Nothing, Dial as SaidDial, Unnamed, Name, Upgrade, Yes, At, Ledger, Bad}
 use Rattle.path.specs.declared.Path.the-variants as path
 use Rattle.path.specs.declared.DialPurpose.the-variants as purpose
-use Rattle.rows.specs.declared.Entry.the-variants as entry
+use Rattle.kinds.specs.declared.Entry.the-variants as entry
 
 abbrev pub pathText : Path → List ℕ
 pathText (path.Relayed relay) = keyed (ascii "relayed:") (relay .0)

@@ -9,6 +9,8 @@ ghost use Rattle.ledger.specs.Ledger.{tablesOf};
 ghost use Rattle.ledger_answers.specs.Answers.{separator, pathText, pathFields, purposeText, purposeFields, yesText, refusedText, nameText, dialText, upgradeText, saidWords, saidText, entryText, rowText, rowsText, ledgerText, tokensIn, connectionsIn, tokensText, connectionsText, droppedText};
 use dials::Connections;
 use dials::Tokens;
+use kinds::Entry;
+use kinds::Row;
 use ledger::Ledger;
 use path::Attribution;
 use path::Dial;
@@ -16,9 +18,7 @@ use path::DialPurpose;
 use path::Owner;
 use path::Path;
 use refusal::Refusal;
-use rows::Entry;
 use rows::ROWS;
-use rows::Row;
 use rows::Table;
 
 // ---- names and dials
@@ -172,7 +172,7 @@ fn put_row(row: Row, out: &mut [u8], at: usize) -> usize
     ensures place { λ r. ⌜ r ≡ behind (now (out .entry)) at (rowText row) ⌝ }
 {
     let p = text::put_decimal(row.key, out, at);
-    put_entry(rows::entry_of(row), out, p)
+    put_entry(kinds::entry_of(row), out, p)
 }
 
 fn put_rows(l: &Ledger, table: Table, out: &mut [u8], at: usize) -> usize

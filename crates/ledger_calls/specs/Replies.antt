@@ -2,9 +2,6 @@
 -- the dials of an attempt dropped, over the live connections
 use Prim.Native.Nat.{ℕ}
 use mathlib.Core.List.{List}
-use mathlib.Core.Bool.{Bool}
-use lib.Dec.{ltb}
-use Rattle.prelude.specs.Choice.{pick}
 use Rattle.fields.specs.Fields.{part}
 use Rattle.ids.specs.declared.ConnectId.{ConnectId}
 use Rattle.ids.specs.declared.PeerId.{PeerId}
@@ -45,7 +42,3 @@ wordsFor ws line abort.Bad = wordsAfter ws (callOf line)
 
 abbrev pub wordsBy : List ℕ → List ℕ → List ℕ
 wordsBy ws line = wordsFor ws line (abortOf line)
-
--- how many bytes of a buffer are a line: it ended in a line feed, and does not fill the buffer
-abbrev pub wholeLength : ℕ → ℕ → Bool → ℕ
-wholeLength room used ended = pick ended (pick (ltb used room) used 0) 0

@@ -23,10 +23,10 @@ use Rattle.path.specs.declared.FoundPath.the-variants.{At as PathAt, None as No
 use Rattle.path.specs.declared.Claim.{Claim}
 use Rattle.path.specs.declared.Claim.the-variants.{Circuit, Direct as DirectClaim, None as NoClaim}
 use Rattle.path.specs.Judged.{judged, circuitPath, directPath, byPurpose, byDial, byClaim, byWindow as windowPath, unowned}
-use Rattle.rows.specs.declared.Entry.the-variants.{Path as PathEntry}
-use Rattle.rows.specs.declared.Row.{Row}
+use Rattle.kinds.specs.declared.Entry.the-variants.{Path as PathEntry}
+use Rattle.kinds.specs.declared.Row.{Row}
 use Rattle.rows.specs.declared.Keep.the-variants.{Lasting}
-use Rattle.rows.specs.Kinds.{entryOf}
+use Rattle.kinds.specs.Kinds.{entryOf}
 use Rattle.rows.specs.Rows.{findIn, keepsRow, without, inserted, crowded, lasts as lasting}
 use Rattle.rows.proofs.Laws.{find-entered, find-inserted-other, find-without, find-without-other}
 use Rattle.entries.specs.Entries.{pathOf, pathAt, dialAt, endOf, endAt, windowOpen, punchEnd, lasts, readAs}

@@ -9,7 +9,7 @@ use Rattle.ids.specs.declared.ConnectId.{ConnectId}
 use Rattle.path.specs.declared.FoundPath.{FoundPath}
 use Rattle.path.specs.declared.FoundPath.the-variants.{At as PathAt, None as NoPath}
 use Rattle.ids.specs.declared.ConnectionId.{ConnectionId}
-use Rattle.rows.specs.declared.Row.{Row}
+use Rattle.kinds.specs.declared.Row.{Row}
 use Rattle.rows.specs.Rows.{crowded}
 use Rattle.rows.specs.Ascending.{Ascending}
 use Rattle.rows.specs.Ascending.Ascending.{none}

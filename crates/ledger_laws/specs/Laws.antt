@@ -21,7 +21,7 @@ use Rattle.path.specs.declared.FoundDial.{FoundDial}
 use Rattle.path.specs.declared.FoundDial.the-variants.{At as DialAt, None as NoDial}
 use Rattle.path.specs.declared.Claim.{Claim}
 use Rattle.path.specs.declared.Claim.the-variants.{Circuit, Direct as DirectClaim}
-use Rattle.rows.specs.declared.Row.{Row}
+use Rattle.kinds.specs.declared.Row.{Row}
 use Rattle.rows.specs.Ascending.{Ascending}
 use Rattle.ledger.specs.Ledger.{PathLedger, dialsOf, windowsOf, pathsOf}
 use Rattle.ledger_laws.specs.Calls.{Call}

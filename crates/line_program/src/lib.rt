@@ -2,8 +2,11 @@
 // a read brings, nor whether a text was written; these say what becomes of the bytes that were brought.
 ghost use mathlib.Core.Path.{_≡_};
 ghost use mathlib.Core.Bool.{true};
-ghost use Prim.Native.Nat.{_≤_};
+ghost use Prim.Native.Nat.{_+_, _≤_};
 ghost use lib.ListN.{length};
+ghost use mathlib.Core.List.{[]};
+ghost use lib.Dec.{leb};
+ghost use Rattle.line_program.specs.Waits.{isLine, stays, waitingAfter, handedAfter};
 ghost use Rattle.line_program.specs.Reads.{left, hasLine, refilled, Turned, NextLine};
 use libc::STDIN_FILENO;
 use libc::STDOUT_FILENO;
@@ -112,4 +115,85 @@ pub fn print(text: &[u8], n: usize) -> bool
         return false;
     }
     io::write_all(STDOUT_FILENO, &text[..n])
+}
+
+// ---- what waits to be written
+
+// Output that waits, from the buffer's first byte on, and whether all before it was written.
+pub struct Waiting {
+    pub bytes: usize,
+    pub written: bool,
+}
+
+// Whether a line was read, and not the input's end or a failure. An empty line without a line feed is none.
+pub fn is_line(failed: bool, ended: bool, used: usize) -> bool
+    ensures { λ r. ⌜ r ≡ isLine failed ended used ⌝ }
+{
+    if failed {
+        return false;
+    }
+    if ended {
+        return true;
+    }
+    0 < used
+}
+
+fn has_room(size: usize, waiting: usize, room: usize) -> bool
+    ensures { λ r. ⌜ r ≡ leb (waiting + room) size ⌝ }
+{
+    if size < waiting {
+        return false;
+    }
+    if room <= size - waiting {
+        return true;
+    }
+    false
+}
+
+// Whether what waits may stay: the next line needs no read, and `room` is left for what it prints.
+fn may_stay(
+    block: &[u8],
+    from: usize,
+    until: usize,
+    size: usize,
+    waiting: usize,
+    room: usize,
+) -> bool
+    ensures { λ r. ⌜ r ≡ stays room (hasLine (left (now (block .entry)) from until)) size waiting ⌝ }
+{
+    if has_line(block, from, until) {
+        return has_room(size, waiting, room);
+    }
+    false
+}
+
+// Writes what waits unless it may stay. Where nothing waits nothing is written, so that nothing fails.
+pub fn hand_over(
+    block: &[u8],
+    from: usize,
+    until: usize,
+    out: &[u8],
+    waiting: usize,
+    room: usize,
+) -> Waiting
+    ensures bytes { λ r. ⌜ r .bytes ≡ waitingAfter room (hasLine (left (now (block .entry)) from until)) (now (out .entry)) waiting ⌝ }
+    ensures written { λ r. ⌜ (waiting ≤ length (now (out .entry)) → handedAfter room (hasLine (left (now (block .entry)) from until)) (now (out .entry)) waiting ≡ [] → r .written ≡ true) ⌝ }
+{
+    if waiting == 0 {
+        return Waiting {
+            bytes: waiting,
+            written: true,
+        };
+    }
+    if may_stay(block, from, until, out.len(), waiting, room) {
+        return Waiting {
+            bytes: waiting,
+            written: true,
+        };
+    }
+    let written = print(out, waiting);
+    Waiting {
+        bytes: 0,
+        written: written,
+    }
 }

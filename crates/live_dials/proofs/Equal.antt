@@ -5,7 +5,7 @@ use mathlib.Core.List.{List, [], _∷_, _++_, map, map-append}
 use lib.ListN.{length, replicate}
 use Rattle.ids.specs.declared.PeerId.{PeerId}
 use Rattle.ids.specs.declared.ConnectId.{ConnectId}
-use Rattle.rows.specs.declared.Row.{Row}
+use Rattle.kinds.specs.declared.Row.{Row}
 use Rattle.dials.specs.declared.First.{First}
 use Rattle.dials.specs.Dials.{askedOf, firstFor, pairs}
 use Rattle.ledger.specs.Ledger.{PathLedger, aborted, abortedWith, abortedDials}

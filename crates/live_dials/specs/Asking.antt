@@ -3,7 +3,7 @@ use mathlib.Core.List.{List, map}
 use Rattle.prelude.specs.Lists.{padded}
 use Rattle.rows.specs.Rows.{capacity}
 use Rattle.ids.specs.declared.PeerId.{PeerId}
-use Rattle.rows.specs.declared.Row.{Row}
+use Rattle.kinds.specs.declared.Row.{Row}
 use Rattle.dials.specs.Dials.{askedOf}
 use Rattle.dials.specs.declared.Firsts.{Firsts}
 use Rattle.live_dials.specs.declared.Asked.{Asked}

@@ -21,19 +21,19 @@ use Rattle.path.specs.declared.DialPurpose.the-variants.{Punch}
 use Rattle.path.specs.declared.Path.the-variants.{Punched}
 use Rattle.path.specs.declared.Owner.the-variants.{Attempt}
 use Rattle.path.specs.Judged.{byDial}
-use Rattle.rows.specs.declared.Entry.{Entry}
-use Rattle.rows.specs.declared.Entry.the-variants.{Dialed, Window, Path, Other as NoEntry}
-use Rattle.rows.specs.declared.Row.{Row}
+use Rattle.kinds.specs.declared.Entry.{Entry}
+use Rattle.kinds.specs.declared.Entry.the-variants.{Dialed, Window, Path, Other as NoEntry}
+use Rattle.kinds.specs.declared.Row.{Row}
 use Rattle.rows.specs.declared.Found.{Found}
 use Rattle.rows.specs.declared.Found.the-variants.{At, Nothing}
 use Rattle.rows.specs.declared.Keep.the-variants.{Other, Lasting, Below as KeepBelow, Above as KeepAbove}
 use Rattle.rows.specs.Ascending.{Below, Ascending}
 use Rattle.rows.specs.Ascending.Below.{none as below-none, more as below-more}
 use Rattle.rows.specs.Ascending.Ascending.{none as ascending-none, more as ascending-more}
-use Rattle.rows.specs.Kinds.{entryOf}
+use Rattle.kinds.specs.Kinds.{entryOf}
 use Rattle.rows.specs.Rows.{findIn, keepsRow, kept, without, inserted, crowded}
 use Rattle.rows.specs.Rows as row
-use Rattle.rows.proofs.EntryRows.{entry-back}
+use Rattle.kinds.proofs.EntryRows.{entry-back}
 use Rattle.rows.proofs.Laws.{find-entered, find-inserted-other, find-without, find-without-other}
 use Rattle.vocabulary.specs.declared.Deadline.{Deadline}
 use Rattle.vocabulary.specs.declared.Deadline.the-variants.{At as EndAt, None as NoEnd}

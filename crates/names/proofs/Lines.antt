@@ -63,43 +63,28 @@ use Rattle.history.proofs.Made.{framedIn, chosenIn}
 use Rattle.history.proofs.Run.{step-keeps, begun-rel}
 use Rattle.history.proofs.Answers.{step-answers}
 use Rattle.history.proofs.Buffers.{step-gives}
-use Rattle.journal_lines.specs.declared.Kind.{Kind}
-use Rattle.journal_lines.specs.declared.Kind.the-variants as kind
-use Rattle.fields.specs.declared.Maybe.the-variants as maybe
-use Rattle.fields.specs.declared.Pair.the-variants as pair
+use Rattle.vocabulary.specs.declared.Live.{Live}
+use Rattle.vocabulary.specs.declared.Offer.{Offer}
 use Rattle.journal_lines.specs.declared.Line.{Line}
 use Rattle.journal_lines.specs.declared.Line.the-variants.{Start, Up, Input, Tick, Wrote, Down, Dial, Forget, Attribute, Unknown}
-use Rattle.journal_turns.specs.Turns.{Journal, newJournal, counted, started, noEffects, silent, refused, naming, effectsOf, Leaves, settled, liveOf, offerOf, hostOf, digitsBytes, inputOf, startIn, startTurn, ledgerBy, upTurn, inputTurn, expired, tickTurn, wroteTurn, downTurn, dialedBy, dialTurn, forgetTurn, claimFor, namedBy, attributeTurn, Taken, apart, turnOf, read, lineTurn}
+use Rattle.journal_calls.specs.Calls.{Journal, newJournal, counted, started, noEffects, silent, refused, naming, effectsOf, Leaves, settled, startIn, startTurn, ledgerBy, upTurn, inputTurn, expired, tickTurn, wroteTurn, downTurn, dialedBy, dialTurn, forgetTurn, claimFor, namedBy, attributeTurn, Taken}
+use Rattle.journal_turns.specs.Turns.{hostOf, digitsBytes, apart, turnOf, read, lineTurn}
 use Rattle.names.specs.Events.{Event, dialed, gotName, forgot, awaited, dialing, expected, isFull}
 use Rattle.names.specs.Events as event
-use Rattle.names.specs.Diary.{saysIn, Diary, kindBy, hostBy, upBy, inputBy, tickBy, ofLot, called, adds, nameOf, isName, says, entered, Out, still, refusedBy, outBy, onceStarted, noRoom, number, blank, toldOf, nextOf, tellsLines, outOf, outs, NamesFollow}
+use Rattle.names.specs.Diary.{saysIn, Diary, hostBy, upBy, inputBy, tickBy, ofLot, called, adds, nameOf, isName, says, entered, Out, still, refusedBy, outBy, onceStarted, noRoom, number, blank, toldOf, nextOf, tellsLines, outOf, outs, NamesFollow}
 use Rattle.names.proofs.Tallies.{keys-full}
 use Rattle.names.proofs.Agrees.{Agrees, empty-agrees, gave-up-agrees, replied-agrees, ticked-agrees, dialed-agrees, forgot-agrees, named-agrees}
 use Rattle.time.specs.Time.{last}
 use Rattle.refusal.specs.Number.{numberOf}
-use Rattle.fields.specs.declared.Maybe.{Maybe}
-use Rattle.fields.specs.declared.Pair.{Pair}
 use Rattle.wire.specs.Lists.{broken, entries}
 use Rattle.history.specs.Numbers.{numberIn, answeredWith}
 use Rattle.history.specs.Refuses.{refuses, lendsBroken, lendsFull, turned}
 use Rattle.history.proofs.Refuses.{some-number, step-refuses}
 
--- what a line's words stand for, here and there
-host-same : (at : ℕ) (l : Maybe) (o : Pair) → hostBy at l o ≡ hostOf at l o
+-- the host's answers, here and there
+host-same : (at : ℕ) (l : Live) (o : Offer) → hostBy at l o ≡ hostOf at l o
 unfolding hostOf
-host-same at l o = both-same l o
-  where
-    both-same : (l : Maybe) (o : Pair) → hostBy at l o ≡ record { at = at; live = liveOf l; offer = offerOf o }
-    both-same (maybe.Number v) (pair.Numbers conn stream) = refl
-    both-same (maybe.Number v) pair.None = refl
-    both-same maybe.None (pair.Numbers conn stream) = refl
-    both-same maybe.None pair.None = refl
-
-kind-same : (k : Kind) → inputOf k ≡ kindBy k
-kind-same kind.Ready = refl
-kind-same kind.Data = refl
-kind-same kind.End = refl
-kind-same kind.Closed = refl
+host-same at l o = refl
 
 -- ---- what is said of a decision that is carried out, and of its answer
 
@@ -238,7 +223,7 @@ module _ (s : Settings) (j : Journal) (d : Diary) (m : Meets s j d) where
   unfolding refusesPunches
   room-same = keys-full (d .who .source .0) (windowsOf (j .ledger)) (expected (d .events)) (m .ledger .window-keys)
 
-  up-follows : (at : ℕ) (l : Maybe) (o : Pair) (own : List ℕ) (peer : PeerId) (conn : ConnectionId) (relayed : Bool)
+  up-follows : (at : ℕ) (l : Live) (o : Offer) (own : List ℕ) (peer : PeerId) (conn : ConnectionId) (relayed : Bool)
       → Follows s d (apart (d .reply) (upTurn j (hostBy at l o) own peer conn relayed))
       (refuses (broken own) false (d .book) (up emptyLedger (hostBy at l o) own peer conn relayed))
       (says s d (up emptyLedger (hostBy at l o) own peer conn relayed))
@@ -254,7 +239,7 @@ module _ (s : Settings) (j : Journal) (d : Diary) (m : Meets s j d) where
       (settled-follows s j d m e _ (d .reply) w _ refl refl (f .effects) (step-keeps k (j .circuit) (d .book) (m .rel) x .rel)
       (left-agrees (ledgerBy j e) w (isRefused (e .outcome)) (f .ledgers) (f .room)) (same-reply (isRefused (e .outcome)) (d .reply)))
 
-  tick-follows : (at : ℕ) (l : Maybe) (o : Pair) (own : List ℕ)
+  tick-follows : (at : ℕ) (l : Live) (o : Offer) (own : List ℕ)
       → Follows s d (apart (d .reply) (tickTurn j (hostBy at l o) own))
       (refuses (broken own) false (d .book) (tick emptyLedger (hostBy at l o) own))
       (says s d (tick emptyLedger (hostBy at l o) own))
@@ -273,18 +258,18 @@ module _ (s : Settings) (j : Journal) (d : Diary) (m : Meets s j d) where
       (left-agrees (ledgerBy j e) w (isRefused (e .outcome)) (f .ledgers) (f .room) q))
       (same-reply (isRefused (e .outcome)) (d .reply)))
 
-  input-follows : (at : ℕ) (l : Maybe) (o : Pair) (own : List ℕ) (stream : StreamId) (kind : Kind) (bytes : List ℕ) (pending : Bool)
+  input-follows : (at : ℕ) (l : Live) (o : Offer) (own : List ℕ) (stream : StreamId) (kind : StreamInput) (bytes : List ℕ) (pending : Bool)
       → Follows s d (inputTurn j (hostBy at l o) own (d .reply) stream kind bytes pending)
-      (refuses (broken own) (noRoom d) (d .book) (input emptyLedger (d .reply) (hostBy at l o) own stream (inputOf kind) bytes pending))
-      (says s d (input emptyLedger (d .reply) (hostBy at l o) own stream (inputOf kind) bytes pending))
-      (called s d (input emptyLedger (d .reply) (hostBy at l o) own stream (inputOf kind) bytes pending)
-      (gathers (hostBy at l o) (d .reply) stream (inputOf kind) bytes (d .book .stage)))
+      (refuses (broken own) (noRoom d) (d .book) (input emptyLedger (d .reply) (hostBy at l o) own stream kind bytes pending))
+      (says s d (input emptyLedger (d .reply) (hostBy at l o) own stream kind bytes pending))
+      (called s d (input emptyLedger (d .reply) (hostBy at l o) own stream kind bytes pending)
+      (gathers (hostBy at l o) (d .reply) stream kind bytes (d .book .stage)))
   unfolding inputTurn inputAnswer inputBuffer answerOf stepOf said back leftOf Noted tells note buffer bufferIs buffer-of refuses lendsBroken lendsFull answeredWith
   input-follows at l o own stream kind bytes pending =
       let h : Host = hostBy at l o in
-      let x : Call = input (j .ledger) (d .reply) h own stream (inputOf kind) bytes pending in
+      let x : Call = input (j .ledger) (d .reply) h own stream kind bytes pending in
       let f = step-answers k (j .circuit) (d .book) (m .rel) x in
-      let e : Decision = decidedAt (j .circuit) (j .ledger) h own (d .reply) stream (inputOf kind) bytes pending in
+      let e : Decision = decidedAt (j .circuit) (j .ledger) h own (d .reply) stream kind bytes pending in
       let w : Told = tells s (d .who) (d .book) x in
       numbered _
       (step-refuses k (j .circuit) (d .book) (m .rel) x ∙ ap (λ (v : Bool). refuses (broken own) v (d .book) x) room-same)
@@ -492,17 +477,9 @@ module _ (s : Settings) (j : Journal) (d : Diary) (m : Meets s j d) where
       (refuses (broken (digitsBytes line own)) (noRoom d) (d .book) (inputBy line (d .reply) at stream kind bytes l o pending own))
       (says s d (inputBy line (d .reply) at stream kind bytes l o pending own))
       (called s d (inputBy line (d .reply) at stream kind bytes l o pending own)
-      (gathers (hostBy at l o) (d .reply) stream (kindBy kind) (digitsBytes line bytes) (d .book .stage))))
+      (gathers (hostBy at l o) (d .reply) stream kind (digitsBytes line bytes) (d .book .stage))))
       (host-same at l o)
-      (subst
-      (λ (v : StreamInput). Follows s d
-      (inputTurn j (hostBy at l o) (digitsBytes line own) (d .reply) stream kind (digitsBytes line bytes) pending)
-      (refuses (broken (digitsBytes line own)) (noRoom d) (d .book)
-      (input emptyLedger (d .reply) (hostBy at l o) (digitsBytes line own) stream v (digitsBytes line bytes) pending))
-      (says s d (input emptyLedger (d .reply) (hostBy at l o) (digitsBytes line own) stream v (digitsBytes line bytes) pending))
-      (called s d (input emptyLedger (d .reply) (hostBy at l o) (digitsBytes line own) stream v (digitsBytes line bytes) pending)
-      (gathers (hostBy at l o) (d .reply) stream v (digitsBytes line bytes) (d .book .stage))))
-      (kind-same kind) (input-follows s j d m at l o (digitsBytes line own) stream kind (digitsBytes line bytes) pending)))
+      (input-follows s j d m at l o (digitsBytes line own) stream kind (digitsBytes line bytes) pending))
   turn-follows line (Tick at l o own) =
       once _ _ _ _
       (subst

@@ -10,7 +10,7 @@ use lib.ListN.{length}
 use lib.Dec.{eqb, ltb, leb}
 use Rattle.prelude.specs.Lists.{such}
 use Rattle.prelude.specs.Choice.{pick, both, no}
-use Rattle.rows.specs.declared.Row.{Row}
+use Rattle.kinds.specs.declared.Row.{Row}
 use Rattle.rows.specs.declared.Keep.the-variants.{Below as KeepBelow, Above as KeepAbove, Other}
 use Rattle.rows.specs.Rows.{keepsRow, kept, without, inserted, crowded}
 use Rattle.names.specs.Events.{others, isFull}

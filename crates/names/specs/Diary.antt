@@ -19,18 +19,11 @@ use Rattle.path.specs.declared.FoundPath.{FoundPath}
 use Rattle.path.specs.declared.FoundPath.the-variants as found
 use Rattle.frames.specs.declared.Framed.{Framed}
 use Rattle.ledger.specs.Ledger.{emptyLedger}
-use Rattle.fields.specs.declared.Maybe.{Maybe}
-use Rattle.fields.specs.declared.Pair.{Pair}
-use Rattle.fields.specs.declared.Maybe.the-variants as maybe
-use Rattle.fields.specs.declared.Pair.the-variants as pair
 use Rattle.vocabulary.specs.declared.Settings.{Settings}
 use Rattle.vocabulary.specs.declared.Host.{Host}
 use Rattle.vocabulary.specs.declared.Live.{Live}
-use Rattle.vocabulary.specs.declared.Live.the-variants as live
 use Rattle.vocabulary.specs.declared.Offer.{Offer}
-use Rattle.vocabulary.specs.declared.Offer.the-variants as offer
 use Rattle.vocabulary.specs.declared.StreamInput.{StreamInput}
-use Rattle.vocabulary.specs.declared.StreamInput.the-variants as stream
 use Rattle.history.specs.Calls.{Call, up, input, tick, wrote, down}
 use Rattle.history.specs.Book.{Book, Who, fresh, note}
 use Rattle.history.specs.Refuses.{refuses, turned}
@@ -38,14 +31,13 @@ use Rattle.history.specs.Tells.{Says, Lot, stays, removed, until, tells, gather
 use Rattle.history.specs.Answers.{whoOf, saidIn}
 use Rattle.history.specs.Questions.{isOver}
 use Rattle.journal_lines.specs.declared.Digits.{Digits}
-use Rattle.journal_lines.specs.declared.Kind.{Kind}
-use Rattle.journal_lines.specs.declared.Kind.the-variants as kind
 use Rattle.journal_lines.specs.declared.Line.{Line}
 use Rattle.journal_lines.specs.declared.Line.the-variants.{Start, Up, Input, Tick, Wrote, Down, Dial, Forget, Attribute, Unknown}
 use Rattle.journal_effects.specs.declared.Effects.{Effects}
-use Rattle.journal_turns.specs.declared.Said.{Said}
-use Rattle.journal_turns.specs.declared.Said.the-variants as said
-use Rattle.journal_turns.specs.Turns.{Journal, Turned, newJournal, digitsBytes, read, lineTurn}
+use Rattle.journal_calls.specs.declared.Said.{Said}
+use Rattle.journal_calls.specs.declared.Said.the-variants as said
+use Rattle.journal_calls.specs.Calls.{Journal, Turned, newJournal}
+use Rattle.journal_turns.specs.Turns.{digitsBytes, read, lineTurn}
 use Rattle.names.specs.Events.{Event, dialed, gotName, forgot, replied, gaveUp, ticked, directName, dialing, named, expected, isFull}
 
 pub record Diary : Type 0 where
@@ -57,33 +49,18 @@ pub record Diary : Type 0 where
 
 -- ---- the circuit's calls that lines make (section 12.5)
 
--- `live`, `offer` and `kind`
-abbrev pub liveBy : Maybe → Live
-liveBy (maybe.Number v) = live.On (record { 0 = v })
-liveBy maybe.None = live.Nothing
-
-abbrev pub offerBy : Pair → Offer
-offerBy (pair.Numbers conn stream) = offer.Stream (record { 0 = conn }) (record { 0 = stream })
-offerBy pair.None = offer.Nothing
-
-abbrev pub kindBy : Kind → StreamInput
-kindBy kind.Ready = stream.Ready
-kindBy kind.Data = stream.Data
-kindBy kind.End = stream.RemoteWriteClosed
-kindBy kind.Closed = stream.Closed
-
-abbrev pub hostBy : ℕ → Maybe → Pair → Host
-hostBy at l o = record { at = at; live = liveBy l; offer = offerBy o }
+abbrev pub hostBy : ℕ → Live → Offer → Host
+hostBy at l o = record { at = at; live = l; offer = o }
 
 -- the book does not look at the ledger that is lent
-abbrev pub upBy : List ℕ → ℕ → PeerId → ConnectionId → Bool → Maybe → Pair → Digits → Call
+abbrev pub upBy : List ℕ → ℕ → PeerId → ConnectionId → Bool → Live → Offer → Digits → Call
 upBy line at peer conn relayed l o own = up emptyLedger (hostBy at l o) (digitsBytes line own) peer conn relayed
 
-abbrev pub inputBy : List ℕ → List ℕ → ℕ → StreamId → Kind → Digits → Maybe → Pair → Bool → Digits → Call
+abbrev pub inputBy : List ℕ → List ℕ → ℕ → StreamId → StreamInput → Digits → Live → Offer → Bool → Digits → Call
 inputBy line reply at stream k bytes l o pending own =
-    input emptyLedger reply (hostBy at l o) (digitsBytes line own) stream (kindBy k) (digitsBytes line bytes) pending
+    input emptyLedger reply (hostBy at l o) (digitsBytes line own) stream k (digitsBytes line bytes) pending
 
-abbrev pub tickBy : List ℕ → ℕ → Maybe → Pair → Digits → Call
+abbrev pub tickBy : List ℕ → ℕ → Live → Offer → Digits → Call
 tickBy line at l o own = tick emptyLedger (hostBy at l o) (digitsBytes line own)
 
 -- ---- what an accepted line adds
@@ -126,7 +103,7 @@ entered s line d (Start at source relay conn) =
 entered s line d (Up at peer conn relayed l o pending own) = called s d (upBy line at peer conn relayed l o own) (d .reply)
 entered s line d (Input at stream k bytes l o pending own) =
     called s d (inputBy line (d .reply) at stream k bytes l o pending own)
-    (gathers (hostBy at l o) (d .reply) stream (kindBy k) (digitsBytes line bytes) (d .book .stage))
+    (gathers (hostBy at l o) (d .reply) stream k (digitsBytes line bytes) (d .book .stage))
 entered s line d (Tick at l o own) = adds after (ticked at ∷ after .events)
   where
     after : Diary

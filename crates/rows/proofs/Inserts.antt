@@ -5,7 +5,7 @@ use mathlib.Core.List.{List, _∷_, _++_, append-assoc}
 use native.Mathlib.Omega.{arith}
 use lib.ListN.{length, getD, take, drop, set, length-append}
 use lib.Seq.{drop-cons, take-append-seam, drop-append-seam, set-at}
-use Rattle.rows.specs.declared.Row.{Row}
+use Rattle.kinds.specs.declared.Row.{Row}
 use Rattle.rows.specs.declared.Keep.the-variants.{Below, Above}
 use Rattle.rows.specs.Rows.{kept, without, inserted}
 use Rattle.rows.specs.Words.{at, noRow, placesOf, rowsFrom, tabled, filled, brought, divided}

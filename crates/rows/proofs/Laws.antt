@@ -9,17 +9,17 @@ use lib.ListN.{length, length-append}
 use lib.Dec.{eqb, ltb}
 use Rattle.prelude.specs.Lists.{such}
 use Rattle.prelude.specs.Choice.{pick, no}
-use Rattle.rows.specs.declared.Row.{Row}
+use Rattle.kinds.specs.declared.Row.{Row}
 use Rattle.rows.specs.declared.Found.{Found}
 use Rattle.rows.specs.declared.Found.the-variants.{At, Nothing}
 use Rattle.rows.specs.declared.Keep.the-variants.{Below as KeepBelow, Above as KeepAbove, Other as KeepOther}
-use Rattle.rows.specs.declared.Entry.{Entry}
-use Rattle.rows.specs.Kinds.{entryOf, rowOf}
+use Rattle.kinds.specs.declared.Entry.{Entry}
+use Rattle.kinds.specs.Kinds.{entryOf, rowOf}
 use Rattle.rows.specs.Rows.{findIn, keepsRow, kept, without, inserted, crowded}
 use Rattle.rows.specs.Ascending.{Below, Ascending}
 use Rattle.rows.specs.Ascending.Below.{none as below-none, more as below-more}
 use Rattle.rows.specs.Ascending.Ascending.{none as ascending-none, more as ascending-more}
-use Rattle.rows.proofs.EntryRows.{entry-back}
+use Rattle.kinds.proofs.EntryRows.{entry-back}
 use Rattle.rows.proofs.Lists.{ne-lt, such-≤, none-removed, one-removed}
 
 both-ways : {A : Type 0} → true ≡ false → A

@@ -2,6 +2,6 @@ pub mod Words
 pub mod Lists
 pub mod Moves
 pub mod Tables
-pub mod EntryRows
+pub mod Lasting
 pub mod Inserts
 pub mod Laws

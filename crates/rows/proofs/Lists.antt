@@ -11,11 +11,11 @@ use lib.Dec.{eqb, ltb}
 use borrow.Author.Tests.{ltb-true, ltb-false, lt-ltb, le-ltb, eqb-true, eqb-false}
 use Rattle.prelude.specs.Lists.{padded, such}
 use Rattle.prelude.specs.Choice.{pick, no}
-use Rattle.rows.specs.declared.Entry.{Entry}
-use Rattle.rows.specs.declared.Row.{Row}
+use Rattle.kinds.specs.declared.Entry.{Entry}
+use Rattle.kinds.specs.declared.Row.{Row}
 use Rattle.rows.specs.declared.Found.the-variants.{At, Nothing}
 use Rattle.rows.specs.declared.Keep.the-variants.{Other, Below, Above}
-use Rattle.rows.specs.Kinds.{entryOf}
+use Rattle.kinds.specs.Kinds.{entryOf}
 use Rattle.rows.specs.Rows.{findIn, keepsRow, kept, marked, marksBy, notBelow}
 
 pub not-no : (b : Bool) → not b ≡ no b

@@ -10,7 +10,7 @@ use lib.ListN.{length, getD, take, drop, set, replicate, length-append, length-t
 use lib.Seq.{drop-cons, take-suc, take-at, drop-at, getD-at, set-at, getD-take, getD-drop, getD-append-add, drop-append-add, length-take-le, split-at}
 use lib.Dec.{ltb}
 use Rattle.prelude.specs.Lists.{such}
-use Rattle.rows.specs.declared.Row.{Row}
+use Rattle.kinds.specs.declared.Row.{Row}
 use Rattle.rows.specs.declared.Keep.the-variants.{Below}
 use Rattle.rows.specs.Rows.{kept, notBelow}
 use Rattle.rows.specs.Words.{noRow, filled, brought, divided}

@@ -10,7 +10,7 @@ use lib.ListN.{length, getD, take, drop, set, replicate, length-append, length-t
 use lib.Seq.{take-nil, take-all, take-at, take-append-seam, drop-append-add, drop-drop, set-at}
 use lib.Dec.{eqb, ltb}
 use Rattle.prelude.specs.Choice.{pick}
-use Rattle.rows.specs.declared.Row.{Row}
+use Rattle.kinds.specs.declared.Row.{Row}
 use Rattle.rows.specs.Words.{at, noRow, placesOf, rowsFrom, tabled, filled, countWord, laidFrom}
 use Rattle.rows.proofs.Words.{length-places, length-tabled, places-tabled, count-tabled, tabled-tabled, tabled-own, count-before, places-before, count-behind, places-behind}
 use Rattle.rows.proofs.Moves.{length-filled}

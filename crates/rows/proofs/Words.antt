@@ -7,7 +7,7 @@ use native.Mathlib.Omega.{arith}
 use native.Mathlib.Numerals.{add-one}
 use lib.ListN.{length, getD, take, drop, set, length-append, length-take, length-drop, take-append-drop, List·getD-append}
 use lib.Seq.{drop-cons, take-add, drop-drop, drop-append-le, drop-append-add, take-at, drop-at, getD-at, getD-drop, length-take-le, set-split, sets, sets-eq}
-use Rattle.rows.specs.declared.Row.{Row}
+use Rattle.kinds.specs.declared.Row.{Row}
 use Rattle.rows.specs.Words.{at, firstRow, rowsIn, wordsOf, noRow, placesOf, rowsFrom, tabled}
 
 pub length-wordsOf : (rs : List Row) → length (wordsOf rs) ≡ 5 * length rs

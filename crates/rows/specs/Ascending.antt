@@ -1,7 +1,7 @@
 -- Rows in ascending order of their keys (RULES.md, section 10.1).
 use Prim.Native.Nat.{ℕ, _<_}
 use mathlib.Core.List.{List, [], _∷_}
-use Rattle.rows.specs.declared.Row.{Row}
+use Rattle.kinds.specs.declared.Row.{Row}
 
 -- the number is below every row's key
 pub data Below (k : ℕ) : List Row → Type 0 where

@@ -1,21 +1,21 @@
 -- A table as the list of its rows in use, and what is done to the list (RULES.md, section 10.1).
 -- how many rows a table has room for
-use Prim.Native.Nat.{ℕ, _-_}
+use Prim.Native.Nat.{ℕ}
 use mathlib.Core.Bool.{Bool, true, false}
 use mathlib.Core.List.{List, [], _∷_, _++_, map}
 use lib.ListN.{length}
 use lib.Dec.{eqb, ltb, leb}
 use Rattle.prelude.specs.Lists.{padded, such}
 use Rattle.prelude.specs.Choice.{pick, no}
-use Rattle.rows.specs.declared.Entry.{Entry}
-use Rattle.rows.specs.declared.Entry.the-variants.{Dialed, Window, Path, Other as OtherEntry}
-use Rattle.rows.specs.declared.Row.{Row}
+use Rattle.kinds.specs.declared.Entry.{Entry}
+use Rattle.kinds.specs.declared.Entry.the-variants.{Dialed, Window, Path, Other as OtherEntry}
+use Rattle.kinds.specs.declared.Row.{Row}
 use Rattle.rows.specs.declared.Found.{Found}
 use Rattle.rows.specs.declared.Found.the-variants.{At, Nothing}
 use Rattle.rows.specs.declared.Keep.{Keep}
 use Rattle.rows.specs.declared.Keep.the-variants.{Below, Above, Other, Lasting}
 use Rattle.rows.specs.declared.Marks.{Marks}
-use Rattle.rows.specs.Kinds.{entryOf}
+use Rattle.kinds.specs.Kinds.{entryOf}
 
 abbrev pub capacity : ℕ
 capacity = 64

@@ -5,7 +5,7 @@ use lib.ListN.{length, take, drop, getD, replicate}
 use lib.Dec.{eqb}
 use Rattle.prelude.specs.Lists.{such}
 use Rattle.prelude.specs.Choice.{pick}
-use Rattle.rows.specs.declared.Row.{Row}
+use Rattle.kinds.specs.declared.Row.{Row}
 use Rattle.rows.specs.declared.Table.{Table}
 use Rattle.rows.specs.declared.Table.the-variants.{Dials, Windows, Paths}
 use Rattle.rows.specs.declared.Keep.the-variants.{Below}

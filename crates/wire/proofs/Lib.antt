@@ -5,4 +5,3 @@ pub mod VarintAgain
 pub mod Frames
 pub mod Entries
 pub mod Listed
-pub mod ByRule

@@ -1,4 +1,3 @@
 pub mod Varint
 pub mod Frame
 pub mod Lists
-pub mod Bytes

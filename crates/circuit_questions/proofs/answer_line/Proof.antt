@@ -1,5 +1,5 @@
 use Rattle.ledger.specs.Ledger.{tablesOf}
-use Rattle.journal_turns.specs.Turns.{whole}
+use Rattle.journal_calls.specs.Calls.{whole}
 use denote.Ref.{now}
 use Rattle.circuit_questions.proofs.Answering.{line-answered}
 use borrow.Author.Needs.{needs}

@@ -3,7 +3,7 @@ use mathlib.Core.Path.{_≡_, refl, ap, _∙_}
 use mathlib.Core.List.{List}
 use native.Mathlib.Omega.{arith}
 use lib.ListN.{length, length-map}
-use Rattle.rows.specs.declared.Row.{Row}
+use Rattle.kinds.specs.declared.Row.{Row}
 use Rattle.rows.specs.declared.Marks.{Marks}
 use Rattle.rows.specs.declared.Table.the-variants.{Dials}
 use Rattle.rows.specs.Rows.{marked}

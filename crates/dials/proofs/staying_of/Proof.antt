@@ -4,7 +4,7 @@ use mathlib.Core.Bool.{Bool, false}
 use mathlib.Core.List.{List, _++_, map}
 use native.Mathlib.Omega.{arith}
 use lib.ListN.{length, getD, take, replicate, length-map}
-use Rattle.rows.specs.declared.Row.{Row}
+use Rattle.kinds.specs.declared.Row.{Row}
 use Rattle.rows.specs.declared.Table.the-variants.{Dials}
 use Rattle.rows.specs.Words.{rowsOf, noRow}
 use Rattle.dials.specs.Dials.{staying, stays, fateAt, pairs, noFirst}

@@ -4,7 +4,7 @@ use native.Mathlib.Omega.{arith}
 use lib.ListN.{length, drop}
 use Rattle.rows.specs.Words.{rowsOf, noRow}
 use Rattle.rows.specs.declared.Table.the-variants.{Windows}
-use Rattle.rows.specs.Kinds.{entryOf}
+use Rattle.kinds.specs.Kinds.{entryOf}
 use Rattle.entries.specs.Entries.{endOf, soonest}
 use Rattle.entries.proofs.Steps.{soonest-end, soonest-more}
 use borrow.Author.Needs.{needs}

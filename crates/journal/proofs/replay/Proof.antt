@@ -2,8 +2,8 @@ use denote.Ref.{now}
 use native.Mathlib.Omega.{arith}
 use lib.ListN.{length-take}
 use Rattle.ledger.specs.Ledger.{tablesOf}
-use Rattle.journal_turns.specs.declared.State.{State as Numbers}
-use Rattle.journal_turns.specs.Turns.{whole}
+use Rattle.journal_calls.specs.declared.State.{State as Numbers}
+use Rattle.journal_calls.specs.Calls.{whole}
 use Rattle.journal.proofs.Stepping.{opened-within}
 use Rattle.journal.proofs.Replaying.{blank-lent, unread-first, refused-first, good-first}
 use mathlib.Core.Path.{sym, ap, _∙_}

@@ -8,7 +8,7 @@ use Rattle.prelude.specs.Numbers.{maxU64}
 use Rattle.journal_prints.specs.Room.{room}
 use Rattle.ledger.specs.Ledger.{tablesOf}
 use Rattle.lines.specs.Lines.{longest}
-use Rattle.journal_turns.specs.Turns.{whole}
+use Rattle.journal_calls.specs.Calls.{whole}
 use Rattle.journal.specs.Steps.{State}
 use Rattle.line_program.proofs.GoingOn.{apart}
 use Rattle.journal.proofs.Stepping.{step-room}

@@ -3,7 +3,7 @@ use native.Mathlib.Omega.{arith}
 use lib.ListN.{length-take}
 use mathlib.Core.Path.{sym, _∙_}
 use Rattle.ledger.specs.Ledger.{tablesOf}
-use Rattle.journal_turns.specs.Turns.{whole}
+use Rattle.journal_calls.specs.Calls.{whole}
 use Rattle.journal.proofs.Stepping.{step-made, step-left}
 use borrow.Author.Needs.{needs}
 use Rattle.journal.proofs.take_step.Statement.{statement}

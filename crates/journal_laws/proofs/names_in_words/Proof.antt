@@ -3,6 +3,9 @@ use Prim.Native.Nat.{ℕ}
 use mathlib.Core.Path.{refl}
 use mathlib.Core.List.{List}
 use Rattle.ids.specs.declared.PeerId.{PeerId}
+use Rattle.forms.specs.Forms.{kindOf, split, onFirst}
+use Rattle.forms.specs.Texts.{text, textFrom, valueText}
+use Rattle.text.specs.Words.{lengthBefore}
 use Rattle.text.specs.Decimal.{digitsOf}
 use Rattle.journal_effects.specs.declared.Effects.{Effects}
 use Rattle.journal_laws.specs.Names.{NamesInWords}
@@ -10,7 +13,7 @@ use Rattle.journal_laws.proofs.names_in_words.Statement.{statement}
 use Rattle.journal_laws.proofs.names_in_words.Tie as tie
 
 in-words : (e : Effects) (sent aims : List ℕ) (relay : PeerId) → NamesInWords e sent aims relay
-unfolding digitsOf
+unfolding digitsOf kindOf split onFirst text textFrom valueText lengthBefore
 in-words e sent aims relay = record { relayed = refl; unnamed = refl; direct = refl; inbound = refl; attempt = refl }
 
 returns : tie.Need-returns

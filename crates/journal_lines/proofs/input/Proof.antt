@@ -1,93 +1,110 @@
-use Rattle.journal_lines.specs.Lines.{inputLine}
-use mathlib.Core.Path.{refl}
-use Rattle.fields.proofs.Chain.{number-bad, number-good}
-use Rattle.journal_lines.proofs.Chain.{answers-bad, answers-good, input-bad, input-good}
+use denote.Ref.{now}
+use Rattle.journal_lines.proofs.Made.{input-made, input-unmade}
 use borrow.Author.Needs.{needs}
 use Rattle.journal_lines.proofs.input.Statement.{statement}
 use Rattle.journal_lines.proofs.input.Tie as tie
 
-slice-aggregate-number-at : tie.Need-slice-aggregate-number-at
-slice-aggregate-number-at c = search needs
+element-copy-out-may-have-bytes : tie.Need-element-copy-out-may-have-bytes
+element-copy-out-may-have-bytes c = search needs
 
-number-at-requires : tie.Need-number-at-requires
-number-at-requires c κs = search needs
+element-copy-out-may-have-bytes-2 : tie.Need-element-copy-out-may-have-bytes-2
+element-copy-out-may-have-bytes-2 c = search needs
 
-enum-known-at : tie.Need-enum-known-at
-enum-known-at c = search needs
+element-copy-out-may-have-bytes-3 : tie.Need-element-copy-out-may-have-bytes-3
+element-copy-out-may-have-bytes-3 c = search needs
 
-enum-told : tie.Need-enum-told
-enum-told c = search needs
+may-have-bytes-requires : tie.Need-may-have-bytes-requires
+may-have-bytes-requires c κs = search needs
+
+element-copy-out-t14 : tie.Need-element-copy-out-t14
+element-copy-out-t14 c = search needs
+
+element-copy-out-t17 : tie.Need-element-copy-out-t17
+element-copy-out-t17 c = search needs
+
+element-copy-out-kind : tie.Need-element-copy-out-kind
+element-copy-out-kind c = search needs
+
+kind-requires : tie.Need-kind-requires
+kind-requires c κs = search needs
+
+element-copy-out-digits-at : tie.Need-element-copy-out-digits-at
+element-copy-out-digits-at c = search needs
+
+element-copy-out-digits-at-2 : tie.Need-element-copy-out-digits-at-2
+element-copy-out-digits-at-2 c = search needs
+
+digits-at-requires : tie.Need-digits-at-requires
+digits-at-requires c κs = search needs
+
+element-copy-out-live : tie.Need-element-copy-out-live
+element-copy-out-live c = search needs
+
+element-copy-out-live-2 : tie.Need-element-copy-out-live-2
+element-copy-out-live-2 c = search needs
+
+live-requires : tie.Need-live-requires
+live-requires c κs = search needs
+
+element-copy-out-offer : tie.Need-element-copy-out-offer
+element-copy-out-offer c = search needs
+
+element-copy-out-offer-2 : tie.Need-element-copy-out-offer-2
+element-copy-out-offer-2 c = search needs
+
+element-copy-out-offer-3 : tie.Need-element-copy-out-offer-3
+element-copy-out-offer-3 c = search needs
+
+offer-requires : tie.Need-offer-requires
+offer-requires c κs = search needs
+
+element-copy-out-is-second : tie.Need-element-copy-out-is-second
+element-copy-out-is-second c = search needs
+
+is-second-requires : tie.Need-is-second-requires
+is-second-requires c κs = search needs
+
+element-copy-out-digits-at-3 : tie.Need-element-copy-out-digits-at-3
+element-copy-out-digits-at-3 c = search needs
+
+element-copy-out-digits-at-4 : tie.Need-element-copy-out-digits-at-4
+element-copy-out-digits-at-4 c = search needs
+
+digits-at-requires-2 : tie.Need-digits-at-requires-2
+digits-at-requires-2 c κs = search needs
 
 returns : tie.Need-returns
-unfolding inputLine
-returns c = number-bad _ _ (c .before .before .number-at .ensures) (c .enum-told .given .1)
-
-slice-aggregate-number-at-2 : tie.Need-slice-aggregate-number-at-2
-slice-aggregate-number-at-2 c = search needs
-
-number-at-requires-2 : tie.Need-number-at-requires-2
-number-at-requires-2 c κs = search needs
-
-enum-known-stream : tie.Need-enum-known-stream
-enum-known-stream c = search needs
-
-enum-told-2 : tie.Need-enum-told-2
-enum-told-2 c = search needs
+returns c = input-made (now (c .before .before .before .before .before .before .before .before .before .before .before .before .before .before .before .before .before .before .before .before .before .before .before .before .args .w)) (c .before .before .before .before .before .before .before .before .before .before .before .before .before .before .before .before .before .before .before .before .may-have-bytes .ensures) (c .before .before .before .before .before .before .before .before .before .before .before .before .before .before .before .kind .ensures) (c .before .before .before .before .before .before .before .before .before .before .before .before .digits-at .ensures) (c .before .before .before .before .before .before .before .before .before .live .ensures) (c .before .before .before .before .before .offer .ensures) (c .before .before .before .is-second .ensures) (c .digits-at2 .ensures) (c .before .before .before .before .before .before .before .before .before .before .before .before .before .before .before .before .before .before .before .if1 .taken)
 
 returns-2 : tie.Need-returns-2
-unfolding inputLine
-returns-2 c = number-good _ _ (c .before .before .before .before .before .before .before .number-at .ensures) (c .before .before .before .before .before .at .given .1) (number-bad _ _ (c .before .before .number-at2 .ensures) (c .enum-told2 .given .1))
-
-input-at-requires : tie.Need-input-at-requires
-input-at-requires c κs = search needs
-
-enum-known-kind : tie.Need-enum-known-kind
-enum-known-kind c = search needs
-
-enum-told-3 : tie.Need-enum-told-3
-enum-told-3 c = search needs
-
-returns-3 : tie.Need-returns-3
-unfolding inputLine
-returns-3 c = number-good _ _ (c .before .before .before .before .before .before .before .before .before .before .before .number-at .ensures) (c .before .before .before .before .before .before .before .before .before .at .given .1) (number-good _ _ (c .before .before .before .before .before .before .number-at2 .ensures) (c .before .before .before .before .stream .given .1) (input-bad _ (c .before .before .input-at .ensures) (c .enum-told3 .given .1)))
-
-answers-at-requires : tie.Need-answers-at-requires
-answers-at-requires c κs = search needs
-
-enum-known-live : tie.Need-enum-known-live
-enum-known-live c = search needs
-
-enum-told-4 : tie.Need-enum-told-4
-enum-told-4 c = search needs
-
-returns-4 : tie.Need-returns-4
-unfolding inputLine
-returns-4 c = number-good _ _ (c .before .before .before .before .before .before .before .before .before .before .before .before .before .before .before .number-at .ensures) (c .before .before .before .before .before .before .before .before .before .before .before .before .before .at .given .1) (number-good _ _ (c .before .before .before .before .before .before .before .before .before .before .number-at2 .ensures) (c .before .before .before .before .before .before .before .before .stream .given .1) (input-good _ (c .before .before .before .before .before .before .input-at .ensures) (c .before .before .before .before .kind .given .1) (answers-bad _ (c .before .before .answers-at .ensures) (c .enum-told4 .given .1))))
-
-returns-5 : tie.Need-returns-5
-unfolding inputLine
-returns-5 c = number-good _ _ (c .before .before .before .before .before .before .before .before .before .before .before .before .before .before .before .before .number-at .ensures) (c .before .before .before .before .before .before .before .before .before .before .before .before .before .before .at .given .1) (number-good _ _ (c .before .before .before .before .before .before .before .before .before .before .before .number-at2 .ensures) (c .before .before .before .before .before .before .before .before .before .stream .given .1) (input-good _ (c .before .before .before .before .before .before .before .input-at .ensures) (c .before .before .before .before .before .kind .given .1) (answers-good _ (c .before .before .before .answers-at .ensures) (c .before .live .given .1) refl)))
+returns-2 c = input-unmade (now (c .before .before .before .before .before .args .w)) (c .before .may-have-bytes .ensures) (c .if1 .left)
 
 pub input-spec : {M : Type 1} → statement M
 input-spec =
     tie.close
     (tie.spec
-    slice-aggregate-number-at
-    number-at-requires
-    enum-known-at
-    enum-told
+    element-copy-out-may-have-bytes
+    element-copy-out-may-have-bytes-2
+    element-copy-out-may-have-bytes-3
+    may-have-bytes-requires
+    element-copy-out-t14
+    element-copy-out-t17
+    element-copy-out-kind
+    kind-requires
+    element-copy-out-digits-at
+    element-copy-out-digits-at-2
+    digits-at-requires
+    element-copy-out-live
+    element-copy-out-live-2
+    live-requires
+    element-copy-out-offer
+    element-copy-out-offer-2
+    element-copy-out-offer-3
+    offer-requires
+    element-copy-out-is-second
+    is-second-requires
+    element-copy-out-digits-at-3
+    element-copy-out-digits-at-4
+    digits-at-requires-2
     returns
-    slice-aggregate-number-at-2
-    number-at-requires-2
-    enum-known-stream
-    enum-told-2
-    returns-2
-    input-at-requires
-    enum-known-kind
-    enum-told-3
-    returns-3
-    answers-at-requires
-    enum-known-live
-    enum-told-4
-    returns-4
-    returns-5)
+    returns-2)

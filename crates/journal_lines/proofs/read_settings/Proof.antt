@@ -1,50 +1,39 @@
-use Rattle.journal_lines.specs.Lines.{settingsOf}
-use mathlib.Core.Path.{refl}
-use Rattle.journal_lines.proofs.Chain.{others-bad, others-good, times-bad, times-good}
+use mathlib.Core.Path.{sym, _∙_}
+use native.Mathlib.Omega.{arith}
+use Rattle.journal_lines.proofs.Made.{settings-read, settings-unread}
 use borrow.Author.Needs.{needs}
 use Rattle.journal_lines.proofs.read_settings.Statement.{statement}
 use Rattle.journal_lines.proofs.read_settings.Tie as tie
 
-read-times-requires : tie.Need-read-times-requires
-read-times-requires c κs = search needs
+sixteen-requires : tie.Need-sixteen-requires
+sixteen-requires c κs = search needs
 
-enum-known-handshake : tie.Need-enum-known-handshake
-enum-known-handshake c = search needs
+slice-aggregate-read-form : tie.Need-slice-aggregate-read-form
+slice-aggregate-read-form c = search needs
 
-enum-told : tie.Need-enum-told
-enum-told c = search needs
+slice-aggregate-read-form-2 : tie.Need-slice-aggregate-read-form-2
+slice-aggregate-read-form-2 c = search needs
+
+read-form-requires : tie.Need-read-form-requires
+read-form-requires c κs = search needs
+
+settings-requires : tie.Need-settings-requires
+settings-requires c κs = search needs
 
 returns : tie.Need-returns
-unfolding settingsOf
-returns c = times-bad _ (c .before .before .read-times .ensures) (c .enum-told .given .1)
-
-read-others-requires : tie.Need-read-others-requires
-read-others-requires c κs = search needs
-
-enum-known-interval : tie.Need-enum-known-interval
-enum-known-interval c = search needs
-
-enum-told-2 : tie.Need-enum-told-2
-enum-told-2 c = search needs
+returns c = c .settings .ensures ∙ settings-read _ _ _ (sym (c .before .before .if1 .taken) ∙ c .before .before .before .before .read-form .ensures .0) (c .before .before .before .before .read-form .ensures .1) (omega (arith, c .before .before .before .before .before .before .before .sixteen .ensures))
 
 returns-2 : tie.Need-returns-2
-unfolding settingsOf
-returns-2 c = times-good _ (c .before .before .before .before .before .before .read-times .ensures) (c .before .before .before .before .handshake .given .1) (others-bad _ (c .before .before .read-others .ensures) (c .enum-told2 .given .1))
-
-returns-3 : tie.Need-returns-3
-unfolding settingsOf
-returns-3 c = times-good _ (c .before .before .before .before .before .before .before .read-times .ensures) (c .before .before .before .before .before .handshake .given .1) (others-good _ (c .before .before .before .read-others .ensures) (c .before .interval .given .1) refl)
+returns-2 c = settings-unread _ (sym (c .if1 .left) ∙ c .before .before .read-form .ensures .0)
 
 pub read-settings-spec : {M : Type 1} → statement M
 read-settings-spec =
     tie.close
     (tie.spec
-    read-times-requires
-    enum-known-handshake
-    enum-told
+    sixteen-requires
+    slice-aggregate-read-form
+    slice-aggregate-read-form-2
+    read-form-requires
+    settings-requires
     returns
-    read-others-requires
-    enum-known-interval
-    enum-told-2
-    returns-2
-    returns-3)
+    returns-2)

@@ -1,54 +1,80 @@
-use Rattle.journal_lines.specs.Lines.{upOf}
-use mathlib.Core.Path.{refl}
-use Rattle.journal_lines.proofs.Chain.{answers-bad, answers-good, connection-bad, connection-good}
 use borrow.Author.Needs.{needs}
 use Rattle.journal_lines.proofs.up.Statement.{statement}
 use Rattle.journal_lines.proofs.up.Tie as tie
 
-slice-aggregate-connection-at : tie.Need-slice-aggregate-connection-at
-slice-aggregate-connection-at c = search needs
+element-copy-out-t4 : tie.Need-element-copy-out-t4
+element-copy-out-t4 c = search needs
 
-connection-at-requires : tie.Need-connection-at-requires
-connection-at-requires c κs = search needs
+element-copy-out-t7 : tie.Need-element-copy-out-t7
+element-copy-out-t7 c = search needs
 
-enum-known-at : tie.Need-enum-known-at
-enum-known-at c = search needs
+element-copy-out-t11 : tie.Need-element-copy-out-t11
+element-copy-out-t11 c = search needs
 
-enum-told : tie.Need-enum-told
-enum-told c = search needs
+element-copy-out-is-second : tie.Need-element-copy-out-is-second
+element-copy-out-is-second c = search needs
+
+is-second-requires : tie.Need-is-second-requires
+is-second-requires c κs = search needs
+
+element-copy-out-live : tie.Need-element-copy-out-live
+element-copy-out-live c = search needs
+
+element-copy-out-live-2 : tie.Need-element-copy-out-live-2
+element-copy-out-live-2 c = search needs
+
+live-requires : tie.Need-live-requires
+live-requires c κs = search needs
+
+element-copy-out-offer : tie.Need-element-copy-out-offer
+element-copy-out-offer c = search needs
+
+element-copy-out-offer-2 : tie.Need-element-copy-out-offer-2
+element-copy-out-offer-2 c = search needs
+
+element-copy-out-offer-3 : tie.Need-element-copy-out-offer-3
+element-copy-out-offer-3 c = search needs
+
+offer-requires : tie.Need-offer-requires
+offer-requires c κs = search needs
+
+element-copy-out-is-second-2 : tie.Need-element-copy-out-is-second-2
+element-copy-out-is-second-2 c = search needs
+
+is-second-requires-2 : tie.Need-is-second-requires-2
+is-second-requires-2 c κs = search needs
+
+element-copy-out-digits-at : tie.Need-element-copy-out-digits-at
+element-copy-out-digits-at c = search needs
+
+element-copy-out-digits-at-2 : tie.Need-element-copy-out-digits-at-2
+element-copy-out-digits-at-2 c = search needs
+
+digits-at-requires : tie.Need-digits-at-requires
+digits-at-requires c κs = search needs
 
 returns : tie.Need-returns
-unfolding upOf
-returns c = connection-bad _ (c .before .before .connection-at .ensures) (c .enum-told .given .1)
-
-answers-at-requires : tie.Need-answers-at-requires
-answers-at-requires c κs = search needs
-
-enum-known-live : tie.Need-enum-known-live
-enum-known-live c = search needs
-
-enum-told-2 : tie.Need-enum-told-2
-enum-told-2 c = search needs
-
-returns-2 : tie.Need-returns-2
-unfolding upOf
-returns-2 c = connection-good _ (c .before .before .before .before .before .before .connection-at .ensures) (c .before .before .before .before .at .given .1) (answers-bad _ (c .before .before .answers-at .ensures) (c .enum-told2 .given .1))
-
-returns-3 : tie.Need-returns-3
-unfolding upOf
-returns-3 c = connection-good _ (c .before .before .before .before .before .before .before .connection-at .ensures) (c .before .before .before .before .before .at .given .1) (answers-good _ (c .before .before .before .answers-at .ensures) (c .before .live .given .1) refl)
+returns c = simp (c .before .before .before .before .before .before .before .before .before .before .before .before .is-second .ensures, c .before .before .before .before .before .before .before .before .before .live .ensures, c .before .before .before .before .before .offer .ensures, c .before .before .before .is-second2 .ensures, c .digits-at .ensures)
 
 pub up-spec : {M : Type 1} → statement M
 up-spec =
     tie.close
     (tie.spec
-    slice-aggregate-connection-at
-    connection-at-requires
-    enum-known-at
-    enum-told
-    returns
-    answers-at-requires
-    enum-known-live
-    enum-told-2
-    returns-2
-    returns-3)
+    element-copy-out-t4
+    element-copy-out-t7
+    element-copy-out-t11
+    element-copy-out-is-second
+    is-second-requires
+    element-copy-out-live
+    element-copy-out-live-2
+    live-requires
+    element-copy-out-offer
+    element-copy-out-offer-2
+    element-copy-out-offer-3
+    offer-requires
+    element-copy-out-is-second-2
+    is-second-requires-2
+    element-copy-out-digits-at
+    element-copy-out-digits-at-2
+    digits-at-requires
+    returns)

@@ -12,8 +12,8 @@ put-attribution-requires c κs = search needs
 enum-told : tie.Need-enum-told
 enum-told c = search needs
 
-put-unattributed-requires : tie.Need-put-unattributed-requires
-put-unattributed-requires c κs = search needs
+put-owner-requires : tie.Need-put-owner-requires
+put-owner-requires c κs = search needs
 
 same-length : tie.Need-same-length
 same-length c = length-kept (laid _ _ _ (c .before .before .put-attribution .ensures))
@@ -22,10 +22,10 @@ returns : tie.Need-returns
 returns c = rw (c .before .before .before .before .before .found .given .1) (c .before .before .put-attribution .ensures)
 
 same-length-2 : tie.Need-same-length-2
-same-length-2 c = length-kept (laid _ _ _ (c .before .before .put-unattributed .ensures))
+same-length-2 c = length-kept (laid _ _ _ (c .before .before .put-owner .ensures))
 
 returns-2 : tie.Need-returns-2
-returns-2 c = rw (c .before .before .before .before .enum-told .given .1) (c .before .before .put-unattributed .ensures)
+returns-2 c = rw (c .before .before .before .before .enum-told .given .1) (c .before .before .put-owner .ensures)
 
 pub put-attributed-spec : {M : Type 1} → statement M
 put-attributed-spec =
@@ -34,7 +34,7 @@ put-attributed-spec =
     enum-known-found
     put-attribution-requires
     enum-told
-    put-unattributed-requires
+    put-owner-requires
     same-length
     returns
     same-length-2

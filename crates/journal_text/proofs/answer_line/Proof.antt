@@ -1,6 +1,6 @@
 use denote.Ref.{now}
 use Rattle.ledger.specs.Ledger.{tablesOf}
-use Rattle.journal_turns.specs.Turns.{whole}
+use Rattle.journal_calls.specs.Calls.{whole}
 use Rattle.journal_text.proofs.Lines.{line-answered}
 use borrow.Author.Needs.{needs}
 use Rattle.journal_text.proofs.answer_line.Statement.{statement}

@@ -1,6 +1,6 @@
 use mathlib.Core.Path.{sym, ap, _∙_}
 use Rattle.text.proofs.Printing.{parts, laid-none}
-use Rattle.journal_turns.specs.Turns.{newJournal, stateOf}
+use Rattle.journal_calls.specs.Calls.{newJournal, stateOf}
 use Rattle.vocabulary.specs.declared.Settings.{Settings}
 use Rattle.journal_text.specs.Texts.{settingsIn, opened}
 use borrow.Author.Needs.{needs}

@@ -31,22 +31,22 @@ read-digits-requires-2 c κs = search needs
 array-share-prefix-few : tie.Need-array-share-prefix-few
 array-share-prefix-few c =
     let a = c .before .before .before .before .before .before .before .before .before .before .before .before .before .before .before .before .before .args in
-    omega (arith, within (now (a .line)) _ (a .own .start) (a .own .end) 2048 (c .before .before .before .before .before .before .before .before .before .before .read-digits .ensures) (c .before .before .before .before .before .before .before .before .before .before .before .before .few-zeros .ensures) (c .before .before .before .before .before .before .before .before .before .before .before .before .before .if1 .taken))
+    omega (arith, within (now (a .line)) _ (a .own .start) (a .own .end) 512 (c .before .before .before .before .before .before .before .before .before .before .read-digits .ensures) (c .before .before .before .before .before .before .before .before .before .before .before .before .few-zeros .ensures) (c .before .before .before .before .before .before .before .before .before .before .before .before .before .if1 .taken))
 
 slice-aggregate-input-turn : tie.Need-slice-aggregate-input-turn
 slice-aggregate-input-turn c =
     let a = c .before .before .before .before .before .before .before .before .before .before .before .before .before .before .before .before .before .before .args in
-    simp length-take (omega (arith, within (now (a .line)) _ (a .own .start) (a .own .end) 2048 (c .before .before .before .before .before .before .before .before .before .before .before .read-digits .ensures) (c .before .before .before .before .before .before .before .before .before .before .before .before .before .few-zeros .ensures) (c .before .before .before .before .before .before .before .before .before .before .before .before .before .before .if1 .taken), long (now (a .line)) _ (a .own .start) (a .own .end) 2048 (c .before .before .before .before .before .before .before .before .before .before .before .read-digits .ensures) (c .before .before .before .before .before .before .before .before .before .before .before .before .before .few-zeros .ensures) (c .before .before .before .before .before .before .before .before .before .before .before .before .before .before .if1 .taken)))
+    simp length-take (omega (arith, within (now (a .line)) _ (a .own .start) (a .own .end) 512 (c .before .before .before .before .before .before .before .before .before .before .before .read-digits .ensures) (c .before .before .before .before .before .before .before .before .before .before .before .before .before .few-zeros .ensures) (c .before .before .before .before .before .before .before .before .before .before .before .before .before .before .if1 .taken), long (now (a .line)) _ (a .own .start) (a .own .end) 512 (c .before .before .before .before .before .before .before .before .before .before .before .read-digits .ensures) (c .before .before .before .before .before .before .before .before .before .before .before .before .before .few-zeros .ensures) (c .before .before .before .before .before .before .before .before .before .before .before .before .before .before .if1 .taken)))
 
 array-share-prefix-brought : tie.Need-array-share-prefix-brought
 array-share-prefix-brought c =
     let a = c .before .before .before .before .before .before .before .before .before .before .before .before .before .before .before .before .before .before .args in
-    omega (arith, within (now (a .line)) _ (a .bytes .start) (a .bytes .end) 2048 (c .before .before .before .before .before .before .before .read-digits2 .ensures) (c .before .before .before .before .before .before .before .before .before .few-zeros2 .ensures) (c .before .before .before .before .before .before .before .before .before .before .before .before .before .before .if1 .taken))
+    omega (arith, within (now (a .line)) _ (a .bytes .start) (a .bytes .end) 512 (c .before .before .before .before .before .before .before .read-digits2 .ensures) (c .before .before .before .before .before .before .before .before .before .few-zeros2 .ensures) (c .before .before .before .before .before .before .before .before .before .before .before .before .before .before .if1 .taken))
 
 slice-aggregate-input-turn-2 : tie.Need-slice-aggregate-input-turn-2
 slice-aggregate-input-turn-2 c =
     let a = c .before .before .before .before .before .before .before .before .before .before .before .before .before .before .before .before .before .before .before .args in
-    simp length-take (omega (arith, within (now (a .line)) _ (a .bytes .start) (a .bytes .end) 2048 (c .before .before .before .before .before .before .before .before .read-digits2 .ensures) (c .before .before .before .before .before .before .before .before .before .before .few-zeros2 .ensures) (c .before .before .before .before .before .before .before .before .before .before .before .before .before .before .before .if1 .taken), long (now (a .line)) _ (a .bytes .start) (a .bytes .end) 2048 (c .before .before .before .before .before .before .before .before .read-digits2 .ensures) (c .before .before .before .before .before .before .before .before .before .before .few-zeros2 .ensures) (c .before .before .before .before .before .before .before .before .before .before .before .before .before .before .before .if1 .taken)))
+    simp length-take (omega (arith, within (now (a .line)) _ (a .bytes .start) (a .bytes .end) 512 (c .before .before .before .before .before .before .before .before .read-digits2 .ensures) (c .before .before .before .before .before .before .before .before .before .before .few-zeros2 .ensures) (c .before .before .before .before .before .before .before .before .before .before .before .before .before .before .before .if1 .taken), long (now (a .line)) _ (a .bytes .start) (a .bytes .end) 512 (c .before .before .before .before .before .before .before .before .read-digits2 .ensures) (c .before .before .before .before .before .before .before .before .before .before .few-zeros2 .ensures) (c .before .before .before .before .before .before .before .before .before .before .before .before .before .before .before .if1 .taken)))
 
 input-turn-requires : tie.Need-input-turn-requires
 input-turn-requires c κs = search needs
@@ -57,7 +57,7 @@ same-length c = search needs
 returns : tie.Need-returns
 returns c =
     let a = c .before .before .before .before .before .before .before .before .before .before .before .before .before .before .before .before .before .before .before .before .before .before .args in
-    (simp (sym (c .before .before .before .before .before .before .before .before .before .before .before .before .before .before .before .before .before .before .before .host-at .ensures), sym (whole (now (a .line)) _ (a .own .start) (a .own .end) 2048 (c .before .before .before .before .before .before .before .before .before .before .before .before .before .before .before .read-digits .ensures) (c .before .before .before .before .before .before .before .before .before .before .before .before .before .before .before .before .before .few-zeros .ensures) (c .before .before .before .before .before .before .before .before .before .before .before .before .before .before .before .before .before .before .if1 .taken)), sym (whole (now (a .line)) _ (a .bytes .start) (a .bytes .end) 2048 (c .before .before .before .before .before .before .before .before .before .before .before .read-digits2 .ensures) (c .before .before .before .before .before .before .before .before .before .before .before .before .before .few-zeros2 .ensures) (c .before .before .before .before .before .before .before .before .before .before .before .before .before .before .before .before .before .before .if1 .taken))) (c .before .before .input-turn .ensures .0), simp (sym (c .before .before .before .before .before .before .before .before .before .before .before .before .before .before .before .before .before .before .before .host-at .ensures), sym (whole (now (a .line)) _ (a .own .start) (a .own .end) 2048 (c .before .before .before .before .before .before .before .before .before .before .before .before .before .before .before .read-digits .ensures) (c .before .before .before .before .before .before .before .before .before .before .before .before .before .before .before .before .before .few-zeros .ensures) (c .before .before .before .before .before .before .before .before .before .before .before .before .before .before .before .before .before .before .if1 .taken)), sym (whole (now (a .line)) _ (a .bytes .start) (a .bytes .end) 2048 (c .before .before .before .before .before .before .before .before .before .before .before .read-digits2 .ensures) (c .before .before .before .before .before .before .before .before .before .before .before .before .before .few-zeros2 .ensures) (c .before .before .before .before .before .before .before .before .before .before .before .before .before .before .before .before .before .before .if1 .taken))) (c .before .before .input-turn .ensures .1))
+    (simp (sym (c .before .before .before .before .before .before .before .before .before .before .before .before .before .before .before .before .before .before .before .host-at .ensures), sym (whole (now (a .line)) _ (a .own .start) (a .own .end) 512 (c .before .before .before .before .before .before .before .before .before .before .before .before .before .before .before .read-digits .ensures) (c .before .before .before .before .before .before .before .before .before .before .before .before .before .before .before .before .before .few-zeros .ensures) (c .before .before .before .before .before .before .before .before .before .before .before .before .before .before .before .before .before .before .if1 .taken)), sym (whole (now (a .line)) _ (a .bytes .start) (a .bytes .end) 512 (c .before .before .before .before .before .before .before .before .before .before .before .read-digits2 .ensures) (c .before .before .before .before .before .before .before .before .before .before .before .before .before .few-zeros2 .ensures) (c .before .before .before .before .before .before .before .before .before .before .before .before .before .before .before .before .before .before .if1 .taken))) (c .before .before .input-turn .ensures .0), simp (sym (c .before .before .before .before .before .before .before .before .before .before .before .before .before .before .before .before .before .before .before .host-at .ensures), sym (whole (now (a .line)) _ (a .own .start) (a .own .end) 512 (c .before .before .before .before .before .before .before .before .before .before .before .before .before .before .before .read-digits .ensures) (c .before .before .before .before .before .before .before .before .before .before .before .before .before .before .before .before .before .few-zeros .ensures) (c .before .before .before .before .before .before .before .before .before .before .before .before .before .before .before .before .before .before .if1 .taken)), sym (whole (now (a .line)) _ (a .bytes .start) (a .bytes .end) 512 (c .before .before .before .before .before .before .before .before .before .before .before .read-digits2 .ensures) (c .before .before .before .before .before .before .before .before .before .before .before .before .before .few-zeros2 .ensures) (c .before .before .before .before .before .before .before .before .before .before .before .before .before .before .before .before .before .before .if1 .taken))) (c .before .before .input-turn .ensures .1))
 
 zeros-requires : tie.Need-zeros-requires
 zeros-requires c κs = search needs

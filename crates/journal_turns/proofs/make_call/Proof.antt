@@ -1,8 +1,6 @@
 use mathlib.Core.Path.{refl}
 use denote.Ref.{now}
-use Rattle.journal_turns.proofs.Turning.{all, start-left, up-left, tick-left, wrote-left, down-left, dial-left, forget-left, attribute-left, refused-left}
-use mathlib.Core.Path.{sym}
-use borrow.Author.Tests.{le-leb, lt-leb, lt-ltb, le-ltb, eq-eqb, ne-eqb}
+use Rattle.journal_calls.proofs.Turning.{all, start-left, up-left, tick-left, wrote-left, down-left, dial-left, forget-left, attribute-left, refused-left}
 use borrow.Author.Needs.{needs}
 use Rattle.journal_turns.proofs.make_call.Statement.{statement}
 use Rattle.journal_turns.proofs.make_call.Tie as tie

@@ -1,6 +1,5 @@
-use Rattle.journal_turns.specs.Turns.{newJournal}
+use Rattle.journal_calls.specs.Calls.{newJournal}
 use mathlib.Core.Path.{sym}
-use borrow.Author.Tests.{le-leb, lt-leb, lt-ltb, le-ltb, eq-eqb, ne-eqb}
 use borrow.Author.Needs.{needs}
 use Rattle.journal_turns.proofs.new_journal.Statement.{statement}
 use Rattle.journal_turns.proofs.new_journal.Tie as tie

@@ -1,10 +1,9 @@
-use Rattle.journal_turns.specs.Turns.{whole}
+use Rattle.journal_calls.specs.Calls.{whole}
 use Rattle.ledger.specs.Ledger.{tablesOf}
 use denote.Ref.{now}
 use mathlib.Core.Path.{_∙_}
-use Rattle.journal_turns.proofs.Turning.{taken-call, untaken-call, free-call}
+use Rattle.journal_turns.proofs.Taking.{taken-call, untaken-call, free-call}
 use mathlib.Core.Path.{sym}
-use borrow.Author.Tests.{le-leb, lt-leb, lt-ltb, le-ltb, eq-eqb, ne-eqb}
 use borrow.Author.Needs.{needs}
 use Rattle.journal_turns.proofs.take_call.Statement.{statement}
 use Rattle.journal_turns.proofs.take_call.Tie as tie

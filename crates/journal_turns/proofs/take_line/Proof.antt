@@ -2,10 +2,11 @@ use lib.Dec.{ltb}
 use lib.ListN.{length}
 use Rattle.lines.specs.Lines.{longest}
 use denote.Ref.{now}
-use Rattle.journal_turns.proofs.Turning.{unread-line, both-false, none-false}
-use Rattle.journal_turns.specs.Turns.{counted, read, turnOf, lineTurn}
+use Rattle.journal_turns.proofs.Taking.{unread-line, both-false, none-false}
+use Rattle.journal_calls.specs.Calls.{counted}
+use Rattle.journal_turns.specs.Turns.{read, lineTurn}
 use mathlib.Core.Path.{sym}
-use borrow.Author.Tests.{le-leb, lt-leb, lt-ltb, le-ltb, eq-eqb, ne-eqb}
+use borrow.Author.Tests.{lt-ltb, le-ltb}
 use borrow.Author.Needs.{needs}
 use Rattle.journal_turns.proofs.take_line.Statement.{statement}
 use Rattle.journal_turns.proofs.take_line.Tie as tie

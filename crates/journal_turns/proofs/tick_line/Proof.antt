@@ -22,12 +22,12 @@ read-digits-requires c κs = search needs
 array-share-prefix-few : tie.Need-array-share-prefix-few
 array-share-prefix-few c =
     let a = c .before .before .before .before .before .before .before .before .before .before .args in
-    omega (arith, within (now (a .line)) _ (a .own .start) (a .own .end) 2048 (c .before .before .before .before .read-digits .ensures) (c .before .before .before .before .before .before .few-zeros .ensures) (c .before .before .before .before .before .before .before .if1 .taken))
+    omega (arith, within (now (a .line)) _ (a .own .start) (a .own .end) 512 (c .before .before .before .before .read-digits .ensures) (c .before .before .before .before .before .before .few-zeros .ensures) (c .before .before .before .before .before .before .before .if1 .taken))
 
 slice-aggregate-tick-turn : tie.Need-slice-aggregate-tick-turn
 slice-aggregate-tick-turn c =
     let a = c .before .before .before .before .before .before .before .before .before .before .before .args in
-    simp length-take (omega (arith, within (now (a .line)) _ (a .own .start) (a .own .end) 2048 (c .before .before .before .before .before .read-digits .ensures) (c .before .before .before .before .before .before .before .few-zeros .ensures) (c .before .before .before .before .before .before .before .before .if1 .taken), long (now (a .line)) _ (a .own .start) (a .own .end) 2048 (c .before .before .before .before .before .read-digits .ensures) (c .before .before .before .before .before .before .before .few-zeros .ensures) (c .before .before .before .before .before .before .before .before .if1 .taken)))
+    simp length-take (omega (arith, within (now (a .line)) _ (a .own .start) (a .own .end) 512 (c .before .before .before .before .before .read-digits .ensures) (c .before .before .before .before .before .before .before .few-zeros .ensures) (c .before .before .before .before .before .before .before .before .if1 .taken), long (now (a .line)) _ (a .own .start) (a .own .end) 512 (c .before .before .before .before .before .read-digits .ensures) (c .before .before .before .before .before .before .before .few-zeros .ensures) (c .before .before .before .before .before .before .before .before .if1 .taken)))
 
 tick-turn-requires : tie.Need-tick-turn-requires
 tick-turn-requires c κs = search needs
@@ -35,7 +35,7 @@ tick-turn-requires c κs = search needs
 returns : tie.Need-returns
 returns c =
     let a = c .before .before .before .before .before .before .before .before .before .before .before .before .args in
-    simp (sym (c .before .before .before .before .before .before .before .before .before .before .host-at .ensures), sym (whole (now (a .line)) _ (a .own .start) (a .own .end) 2048 (c .before .before .before .before .before .before .read-digits .ensures) (c .before .before .before .before .before .before .before .before .few-zeros .ensures) (c .before .before .before .before .before .before .before .before .before .if1 .taken))) (c .tick-turn .ensures)
+    simp (sym (c .before .before .before .before .before .before .before .before .before .before .host-at .ensures), sym (whole (now (a .line)) _ (a .own .start) (a .own .end) 512 (c .before .before .before .before .before .before .read-digits .ensures) (c .before .before .before .before .before .before .before .before .few-zeros .ensures) (c .before .before .before .before .before .before .before .before .before .if1 .taken))) (c .tick-turn .ensures)
 
 zeros-requires : tie.Need-zeros-requires
 zeros-requires c κs = search needs

@@ -2,7 +2,7 @@ use Prim.Native.Nat.{ℕ}
 use mathlib.Core.Path.{ap, _∙_}
 use mathlib.Core.List.{List}
 use Rattle.prelude.specs.Lists.{such}
-use Rattle.rows.specs.declared.Row.{Row}
+use Rattle.kinds.specs.declared.Row.{Row}
 use Rattle.rows.specs.declared.Table.the-variants.{Dials, Paths}
 use Rattle.rows.specs.declared.Keep.the-variants.{Other}
 use Rattle.rows.specs.Rows.{keepsRow}

@@ -7,7 +7,7 @@ use borrow.Author.Tests.{lt-ltb, le-ltb}
 use lib.ListN.{length, getD, take}
 use lib.Dec.{ltb}
 use Rattle.prelude.specs.Lists.{such}
-use Rattle.rows.specs.declared.Row.{Row}
+use Rattle.kinds.specs.declared.Row.{Row}
 use Rattle.rows.specs.declared.Keep.the-variants.{Below}
 use Rattle.rows.specs.Rows.{kept}
 use Rattle.rows.specs.Words.{at, noRow, placesOf, brought, divided}

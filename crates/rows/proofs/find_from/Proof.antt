@@ -4,7 +4,7 @@ use native.Mathlib.Omega.{arith}
 use borrow.Author.Tests.{eq-eqb, ne-eqb}
 use lib.ListN.{length, drop}
 use Rattle.rows.specs.declared.Found.the-variants.{At}
-use Rattle.rows.specs.Kinds.{entryOf}
+use Rattle.kinds.specs.Kinds.{entryOf}
 use Rattle.rows.specs.Rows.{findIn}
 use Rattle.rows.specs.Words.{at, noRow, placesOf, rowsFrom}
 use Rattle.rows.proofs.Lists.{find-here, find-on, find-end}

@@ -5,7 +5,7 @@ use mathlib.Core.List.{List}
 use native.Mathlib.Omega.{arith}
 use borrow.Author.Tests.{leb-false}
 use lib.ListN.{length}
-use Rattle.rows.specs.declared.Row.{Row}
+use Rattle.kinds.specs.declared.Row.{Row}
 use Rattle.rows.specs.declared.Marks.{Marks}
 use Rattle.rows.specs.declared.Keep.the-variants.{Other}
 use Rattle.rows.specs.Rows.{marked, keepsRow, without, inserted, crowded}

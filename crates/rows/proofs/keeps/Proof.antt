@@ -2,7 +2,7 @@ use mathlib.Core.Path.{sym, _∙_}
 use borrow.Author.Tests.{eq-eqb, ne-eqb}
 use lib.Dec.{eqb}
 use Rattle.rows.proofs.Lists.{not-no}
-use Rattle.rows.proofs.EntryRows.{lasts-is}
+use Rattle.rows.proofs.Lasting.{lasts-is}
 use borrow.Author.Needs.{needs}
 use Rattle.rows.proofs.keeps.Statement.{statement}
 use Rattle.rows.proofs.keeps.Tie as tie

@@ -1,6 +1,6 @@
 use mathlib.Core.Path.{ap, _∙_}
 use mathlib.Core.List.{List}
-use Rattle.rows.specs.declared.Row.{Row}
+use Rattle.kinds.specs.declared.Row.{Row}
 use Rattle.rows.specs.declared.Marks.{Marks}
 use Rattle.rows.specs.Rows.{marked, keepsRow}
 use Rattle.rows.specs.Words.{rowsFrom, laidFrom}

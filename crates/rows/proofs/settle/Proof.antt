@@ -4,7 +4,7 @@ use mathlib.Core.List.{List}
 use native.Mathlib.Omega.{arith}
 use borrow.Author.Tests.{eq-eqb, ne-eqb}
 use lib.ListN.{length}
-use Rattle.rows.specs.declared.Row.{Row}
+use Rattle.kinds.specs.declared.Row.{Row}
 use Rattle.rows.specs.Words.{at, noRow, placesOf, tabled}
 use Rattle.rows.proofs.Words.{length-places}
 use Rattle.rows.proofs.Moves.{zeroed, zero-start, zero-step, zero-end}

@@ -32,13 +32,16 @@ fn main() -> io::Result<ExitCode> {
             eprintln!("{arg}: not FORMAT=PROGRAM");
             return Ok(ExitCode::from(2));
         };
-        let mut other: Box<dyn Side> = match program.strip_prefix("many:") {
-            Some(path) => Box::new(Model::new(Path::new(path), mode)?),
-            None => Box::new(Program {
-                path: program.into(),
-            }),
+        // The test program answers lines of any format.
+        let (answers, mut other): (&str, Box<dyn Side>) = match program.strip_prefix("many:") {
+            Some(path) => (mode, Box::new(Model::new(Path::new(path), mode)?)),
+            None => {
+                let path = program.into();
+                let answers = if of_journals(mode) { mode } else { "calls" };
+                (answers, Box::new(Program { path }))
+            }
         };
-        if !compared(mode, seed, count, shrink, &mut *other)? {
+        if !compared(mode, answers, seed, count, shrink, &mut *other)? {
             return Ok(ExitCode::FAILURE);
         }
     }
@@ -47,13 +50,14 @@ fn main() -> io::Result<ExitCode> {
 
 fn compared(
     mode: &str,
+    answers: &str,
     seed: u64,
     count: u64,
     shrink: bool,
     other: &mut dyn Side,
 ) -> io::Result<bool> {
     let rust = Rust {
-        mode: mode.to_string(),
+        mode: answers.to_string(),
     };
     let mut pair = Pair { rust, other };
     let mut kinds = Kinds::new();

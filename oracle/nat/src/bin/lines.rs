@@ -1,5 +1,5 @@
-//! Answers the lines of one test program's format: `lines MODE`, with MODE
-//! message, candidate, budget, schedule or ledger.
+//! Answers lines: `lines MODE`, with MODE message, candidate, budget, schedule
+//! or ledger for the lines of that format, and calls for those of any.
 
 use std::io::{self, Read, Write};
 
@@ -9,7 +9,7 @@ fn main() -> io::Result<()> {
     io::stdin().lock().read_to_end(&mut input)?;
     let mut out = io::BufWriter::new(io::stdout().lock());
     let Some(written) = oracle::lines::run(&mode, &input, &mut out) else {
-        eprintln!("usage: lines message|candidate|budget|schedule|ledger");
+        eprintln!("usage: lines calls|message|candidate|budget|schedule|ledger");
         std::process::exit(2);
     };
     written?;

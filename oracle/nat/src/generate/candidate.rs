@@ -32,6 +32,11 @@ pub(super) fn named() -> Vec<String> {
     for text in ["00", "000b", "000b04c0", "0000", "000000"] {
         out.push(format!("do=select private=0 list={text}"));
         out.push(format!("do=own list={text}"));
+        out.push(format!("do=bound list={text}"));
+    }
+    for named in limits() {
+        let given = list(named.iter().map(Vec::as_slice));
+        out.push(format!("do=bound list={}", hex(&given)));
     }
     for line in [
         "do=eligible private=2 address=-",

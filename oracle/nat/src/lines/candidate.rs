@@ -4,7 +4,7 @@ use minip2p_core::Multiaddr;
 
 use crate::agent::Shared;
 use crate::config::NatConfig;
-use crate::inbound::select_punch_candidates;
+use crate::inbound::{bound_punch_candidates, select_punch_candidates};
 use crate::text::{Words, entries, hex, list};
 
 pub(super) fn answer(line: &[u8]) -> Option<String> {
@@ -25,6 +25,10 @@ pub(super) fn answer(line: &[u8]) -> Option<String> {
         b"own" => {
             let list = words.bytes("list")?;
             words.end(kept(&list, own))
+        }
+        b"bound" => {
+            let list = words.bytes("list")?;
+            words.end(kept(&list, bound_punch_candidates))
         }
         _ => None,
     }

@@ -9,12 +9,32 @@ mod schedule;
 
 use std::io::{self, Write};
 
+use crate::budget::UpgradeBudget;
 use crate::text;
 
 type Answer = dyn FnMut(&[u8]) -> Option<String>;
 
-/// Answers every line of `input` in the format that `mode` names; `None` for
-/// an unknown mode.
+/// What is kept from line to line.
+#[derive(Default)]
+struct Kept {
+    budget: Option<UpgradeBudget>,
+    schedule: schedule::Schedule,
+    ledger: ledger::Tables,
+}
+
+impl Kept {
+    /// A line of any format: no two have a line in common.
+    fn answer(&mut self, line: &[u8]) -> Option<String> {
+        message::answer(line)
+            .or_else(|| candidate::answer(line))
+            .or_else(|| budget::answer(&mut self.budget, line))
+            .or_else(|| self.schedule.answer(line))
+            .or_else(|| self.ledger.answer(line))
+    }
+}
+
+/// Answers every line of `input` in the format that `mode` names, with `calls`
+/// in any; `None` for an unknown mode.
 pub fn run(mode: &str, input: &[u8], out: &mut impl Write) -> Option<io::Result<()>> {
     let mut answer: Box<Answer> = match mode {
         "message" => Box::new(message::answer),
@@ -29,6 +49,10 @@ pub fn run(mode: &str, input: &[u8], out: &mut impl Write) -> Option<io::Result<
         }
         "ledger" => {
             let mut kept = ledger::Tables::default();
+            Box::new(move |line| kept.answer(line))
+        }
+        "calls" => {
+            let mut kept = Kept::default();
             Box::new(move |line| kept.answer(line))
         }
         _ => return None,

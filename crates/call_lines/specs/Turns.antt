@@ -1,0 +1,35 @@
+-- What a line does, and what is printed of it (README.md). A line that is none of the tables' calls is the ledger's; what is none of those
+-- either is bad.
+use Prim.Native.Nat.{ℕ}
+use mathlib.Core.List.{List}
+use mathlib.Core.Bool.{Bool}
+use lib.Dec.{ltb}
+use lib.ListN.{length}
+use Rattle.prelude.specs.Choice.{pick, both}
+use Rattle.text.specs.Words.{ascii}
+use Rattle.lines.specs.Lines.{longest}
+use Rattle.ledger.specs.Ledger.{tablesOf}
+use Rattle.library_calls.specs.declared.Kept.{Kept}
+use Rattle.library_calls.specs.Lines as library
+use Rattle.ledger_calls.specs.Replies.{replyText, wordsBy}
+
+-- what is kept after a line, the ledger's words, and the text
+pub record Turn : Type 0 where
+  pub kept : Kept
+  pub words : List ℕ
+  pub text : List ℕ
+
+abbrev pub turn : Kept → List ℕ → List ℕ → Turn
+turn kept words text = record { kept = kept; words = words; text = text }
+
+unfoldable pub turnOf : Kept → List ℕ → List ℕ → Turn
+turnOf kept words line =
+    pick (library.turnOf kept line .found) (turn (library.turnOf kept line .kept) words (library.turnOf kept line .text))
+    (turn kept (wordsBy words line) (replyText (tablesOf words) line))
+
+-- whether a line feed ended a line that is not too long with it; another is bad
+abbrev pub isWhole : ℕ → Bool → Bool
+isWhole size ended = both ended (ltb size longest)
+
+unfoldable pub lineTurn : Kept → List ℕ → List ℕ → Bool → Turn
+lineTurn kept words line ended = pick (isWhole (length line) ended) (turnOf kept words line) (turn kept words (ascii "bad\n"))

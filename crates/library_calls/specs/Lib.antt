@@ -1,0 +1,5 @@
+pub mod Messages
+pub mod Choices
+pub mod Budgets
+pub mod Schedules
+pub mod Lines
