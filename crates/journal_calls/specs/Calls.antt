@@ -5,7 +5,6 @@ use mathlib.Core.List.{List}
 use lib.ListN.{replicate}
 use Rattle.rows.specs.Words.{ledgerWords}
 use Rattle.prelude.specs.Choice.{pick}
-use Rattle.time.specs.Time.{plus}
 use Rattle.refusal.specs.declared.Refusal.{Refusal}
 use Rattle.ids.specs.declared.PeerId.{PeerId}
 use Rattle.ids.specs.declared.ConnectionId.{ConnectionId}
@@ -93,19 +92,6 @@ newJournal s =
       ledger = emptyLedger;
       words = replicate ledgerWords 0;
       sent = noFrame;
-    }
-
--- one line more; n stays at the largest number (section 12.7)
-unfoldable pub counted : Journal → Journal
-counted j =
-    record {
-      n = plus (j .n) 1;
-      begun = j .begun;
-      settings = j .settings;
-      circuit = j .circuit;
-      ledger = j .ledger;
-      words = j .words;
-      sent = j .sent;
     }
 
 -- an accepted start puts its circuit in place of the one before; the ledger stays (section 12.5)

@@ -19,8 +19,8 @@ use Rattle.lent.specs.Calls.{upOf, tickOf}
 use Rattle.inbound.specs.Circuits.{decidedAt}
 use Rattle.journal_lines.specs.declared.Line.{Line}
 use Rattle.journal_lines.specs.declared.Line.the-variants.{Start, Up, Input, Tick, Wrote, Down, Dial, Forget, Attribute, Unknown}
-use Rattle.journal_calls.specs.Calls.{Journal, started, silent, refused, naming, Leaves, settled, startedBy, startTurn, upTurn, inputTurn, tickTurn, wroteTurn, downTurn, dialedBy, dialTurn, forgetTurn, claimFor, namedBy, attributeTurn, Taken, counted}
-use Rattle.journal_turns.specs.Turns.{digitsBytes, hostOf, apart, needsStart, callTurn, turnOf, read, lineTurn}
+use Rattle.journal_calls.specs.Calls.{Journal, started, silent, refused, naming, Leaves, settled, startedBy, startTurn, upTurn, inputTurn, tickTurn, wroteTurn, downTurn, dialedBy, dialTurn, forgetTurn, claimFor, namedBy, attributeTurn, Taken}
+use Rattle.journal_turns.specs.Turns.{counted, digitsBytes, hostOf, apart, needsStart, callTurn, turnOf, read, lineTurn}
 use Rattle.journal_laws.specs.Laws.{EveryLineCounts}
 
 module _ (j : Journal) where

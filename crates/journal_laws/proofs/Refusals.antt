@@ -24,8 +24,8 @@ use Rattle.history.specs.Calls as history
 use Rattle.history.proofs.Refusals.{refused-changes-nothing}
 use Rattle.journal_lines.specs.declared.Line.{Line}
 use Rattle.journal_lines.specs.declared.Line.the-variants.{Start, Up, Input, Tick, Wrote, Down, Dial, Forget, Attribute, Unknown}
-use Rattle.journal_calls.specs.Calls.{Journal, silent, refused, naming, Leaves, settled, startedBy, startTurn, upTurn, inputTurn, tickTurn, wroteTurn, downTurn, dialedBy, dialTurn, forgetTurn, claimFor, namedBy, attributeTurn, Taken, counted}
-use Rattle.journal_turns.specs.Turns.{digitsBytes, hostOf, apart, needsStart, callTurn, turnOf, read, lineTurn}
+use Rattle.journal_calls.specs.Calls.{Journal, silent, refused, naming, Leaves, settled, startedBy, startTurn, upTurn, inputTurn, tickTurn, wroteTurn, downTurn, dialedBy, dialTurn, forgetTurn, claimFor, namedBy, attributeTurn, Taken}
+use Rattle.journal_turns.specs.Turns.{counted, digitsBytes, hostOf, apart, needsStart, callTurn, turnOf, read, lineTurn}
 use Rattle.journal_calls.specs.declared.Said.the-variants as said
 use Rattle.journal_laws.specs.Laws.{RefusedChangesNothing}
 

@@ -5,8 +5,8 @@ use mathlib.Core.Bool.{Bool}
 use mathlib.Core.List.{List}
 use Rattle.prelude.specs.Numbers.{maxU64}
 use Rattle.refusal.specs.declared.Refusal.{Refusal}
-use Rattle.journal_calls.specs.Calls.{Journal, counted}
-use Rattle.journal_turns.specs.Turns.{lineTurn}
+use Rattle.journal_calls.specs.Calls.{Journal}
+use Rattle.journal_turns.specs.Turns.{counted, lineTurn}
 use Rattle.journal_calls.specs.declared.Said.the-variants.{Refused}
 
 -- a refused line is counted, and nothing else changes, no byte of the reply buffer either

@@ -16,8 +16,8 @@ use Rattle.journal_calls.specs.declared.State.{State}
 use Rattle.journal_calls.specs.declared.Turn.{Turn}
 use Rattle.journal_calls.specs.declared.Said.the-variants as said
 use Rattle.lines.specs.Lines.{longest}
-use Rattle.journal_calls.specs.Calls.{Journal, whole, Turned, turned, refused, saying, Taken, counted}
-use Rattle.journal_turns.specs.Turns.{apart, needsStart, callTurn, turnOf, read, lineTurn}
+use Rattle.journal_calls.specs.Calls.{Journal, whole, Turned, turned, refused, saying, Taken}
+use Rattle.journal_turns.specs.Turns.{counted, apart, needsStart, callTurn, turnOf, read, lineTurn}
 
 module _ (line : List ℕ) (j : Journal) (reply : List ℕ) (l : Line) where
   abbrev Takes : Taken → Turned → List ℕ → Type 0

@@ -4,6 +4,7 @@ use mathlib.Core.Bool.{Bool, true, false}
 use mathlib.Core.List.{List}
 use lib.Dec.{ltb}
 use lib.ListN.{length}
+use Rattle.time.specs.Time.{plus}
 use Rattle.prelude.specs.Choice.{pick, both, no}
 use Rattle.text.specs.Hexadecimal.{bytesOf}
 use Rattle.lines.specs.Lines.{longest}
@@ -16,7 +17,7 @@ use Rattle.journal_lines.specs.Lines.{lineOf}
 use Rattle.journal_lines.specs.declared.Digits.{Digits}
 use Rattle.journal_lines.specs.declared.Line.{Line}
 use Rattle.journal_lines.specs.declared.Line.the-variants.{Start, Up, Input, Tick, Wrote, Down, Dial, Forget, Attribute, Unknown}
-use Rattle.journal_calls.specs.Calls.{Journal, counted, Turned, refused, startTurn, upTurn, Taken, inputTurn, tickTurn, wroteTurn, downTurn, dialTurn, forgetTurn, attributeTurn}
+use Rattle.journal_calls.specs.Calls.{Journal, Turned, refused, startTurn, upTurn, Taken, inputTurn, tickTurn, wroteTurn, downTurn, dialTurn, forgetTurn, attributeTurn}
 
 -- ---- what a line hands to its call (section 12.5)
 
@@ -70,6 +71,19 @@ turnOf line j reply call =
 -- what a line says: nothing known without a line feed, or where it is too long with it
 unfoldable pub read : List ℕ → Bool → Line
 read line ended = pick (both ended (ltb (length line) longest)) (lineOf line) Unknown
+
+-- one line more; n stays at the largest number (section 12.7)
+unfoldable pub counted : Journal → Journal
+counted j =
+    record {
+      n = plus (j .n) 1;
+      begun = j .begun;
+      settings = j .settings;
+      circuit = j .circuit;
+      ledger = j .ledger;
+      words = j .words;
+      sent = j .sent;
+    }
 
 -- a line behind the first: it is counted, and its call is made
 unfoldable pub lineTurn : Journal → List ℕ → List ℕ → Bool → Taken

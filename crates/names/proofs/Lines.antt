@@ -67,8 +67,8 @@ use Rattle.vocabulary.specs.declared.Live.{Live}
 use Rattle.vocabulary.specs.declared.Offer.{Offer}
 use Rattle.journal_lines.specs.declared.Line.{Line}
 use Rattle.journal_lines.specs.declared.Line.the-variants.{Start, Up, Input, Tick, Wrote, Down, Dial, Forget, Attribute, Unknown}
-use Rattle.journal_calls.specs.Calls.{Journal, newJournal, counted, started, noEffects, silent, refused, naming, effectsOf, Leaves, settled, startIn, startTurn, ledgerBy, upTurn, inputTurn, expired, tickTurn, wroteTurn, downTurn, dialedBy, dialTurn, forgetTurn, claimFor, namedBy, attributeTurn, Taken}
-use Rattle.journal_turns.specs.Turns.{hostOf, digitsBytes, apart, turnOf, read, lineTurn}
+use Rattle.journal_calls.specs.Calls.{Journal, newJournal, started, noEffects, silent, refused, naming, effectsOf, Leaves, settled, startIn, startTurn, ledgerBy, upTurn, inputTurn, expired, tickTurn, wroteTurn, downTurn, dialedBy, dialTurn, forgetTurn, claimFor, namedBy, attributeTurn, Taken}
+use Rattle.journal_turns.specs.Turns.{counted, hostOf, digitsBytes, apart, turnOf, read, lineTurn}
 use Rattle.names.specs.Events.{Event, dialed, gotName, forgot, awaited, dialing, expected, isFull}
 use Rattle.names.specs.Events as event
 use Rattle.names.specs.Diary.{saysIn, Diary, hostBy, upBy, inputBy, tickBy, ofLot, called, adds, nameOf, isName, says, entered, Out, still, refusedBy, outBy, onceStarted, noRoom, number, blank, toldOf, nextOf, tellsLines, outOf, outs, NamesFollow}

@@ -3,8 +3,7 @@ use lib.ListN.{length}
 use Rattle.lines.specs.Lines.{longest}
 use denote.Ref.{now}
 use Rattle.journal_turns.proofs.Taking.{unread-line, both-false, none-false}
-use Rattle.journal_calls.specs.Calls.{counted}
-use Rattle.journal_turns.specs.Turns.{read, lineTurn}
+use Rattle.journal_turns.specs.Turns.{counted, read, lineTurn}
 use mathlib.Core.Path.{sym}
 use borrow.Author.Tests.{lt-ltb, le-ltb}
 use borrow.Author.Needs.{needs}
