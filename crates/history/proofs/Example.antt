@@ -11,7 +11,7 @@ use Rattle.wire.specs.Frame.{frameFrom}
 use Rattle.wire.specs.Varint.{valueOf, spanOf, varintOf, groups}
 use Rattle.message.specs.Encoding.{addressFields}
 use Rattle.wire.specs.Lists.{along, listed}
-use Rattle.message.specs.Fields.{fieldOf}
+use Rattle.protobuf.specs.Fields.{fieldOf}
 use Rattle.message.specs.Message.{scan}
 use Rattle.frames.specs.Gathering.{gathering}
 use Rattle.address.specs.Multiaddr.{bigEndian, hasForm, parsed}

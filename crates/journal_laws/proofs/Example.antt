@@ -15,7 +15,7 @@ use Rattle.schedule.specs.Schedule.{ahead, without, timesOf, dueOf, openedOf}
 use Rattle.wire.specs.Frame.{frameFrom}
 use Rattle.wire.specs.Varint.{valueOf, spanOf, varintOf, groups}
 use Rattle.wire.specs.Lists.{along, listed}
-use Rattle.message.specs.Fields.{fieldOf}
+use Rattle.protobuf.specs.Fields.{fieldOf}
 use Rattle.message.specs.Message.{scan}
 use Rattle.message.specs.Encoding.{addressFields}
 use Rattle.frames.specs.Gathering.{gathering}

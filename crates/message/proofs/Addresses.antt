@@ -12,10 +12,10 @@ use Rattle.prelude.specs.Choice.{pick}
 use Rattle.refusal.specs.declared.Refusal.the-variants.{NoType}
 use Rattle.wire.specs.Lists.{entry, listed}
 use Rattle.wire.proofs.Stores.{sets-append}
-use Rattle.message.specs.Fields.{fieldOf}
+use Rattle.protobuf.specs.Fields.{fieldOf}
 use Rattle.message.specs.Message.{Content, says, refused, also, known, ended, scan, accepted, addresses}
-use Rattle.message.specs.declared.Field.{Field}
-use Rattle.message.specs.declared.Field.the-variants as f
+use Rattle.protobuf.specs.declared.Field.{Field}
+use Rattle.protobuf.specs.declared.Field.the-variants as f
 use Rattle.message.proofs.Scan as sc
 
 false-true : false ≡ true → ⊥

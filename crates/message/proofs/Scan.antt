@@ -15,12 +15,12 @@ use Rattle.wire.specs.declared.Varint.{Varint}
 use Rattle.wire.specs.declared.Varint.the-variants.{Value, Malformed}
 use Rattle.wire.proofs.Spans.{varint-size, rest-of}
 use Rattle.wire.specs.Lists.{entry, listed}
-use Rattle.message.specs.Fields.{maxField, varintField, fixedField, bytesField, payloadOf, tagged, fieldOf}
+use Rattle.protobuf.specs.Fields.{maxField, varintField, fixedField, bytesField, payloadOf, tagged, fieldOf}
 use Rattle.message.specs.Message.{Content, says, refused, also, known, ended, step, scan, contentOf, addresses, measured}
-use Rattle.message.specs.declared.Field.{Field}
+use Rattle.protobuf.specs.declared.Field.{Field}
 use Rattle.message.specs.declared.Measured.{Measured}
 use Rattle.refusal.specs.declared.Refusal.the-variants as why
-use Rattle.message.specs.declared.Field.the-variants as f
+use Rattle.protobuf.specs.declared.Field.the-variants as f
 use Rattle.message.specs.declared.Measured.the-variants as m
 
 -- ---- sizes

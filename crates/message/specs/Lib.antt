@@ -1,4 +1,2 @@
-pub mod Fields
 pub mod Message
 pub mod Encoding
-pub mod Refused

@@ -9,9 +9,9 @@ use Rattle.refusal.specs.declared.Refusal.{Refusal}
 use Rattle.refusal.specs.declared.Refusal.the-variants.{MessageTooLong, OutputTooShort, Malformed, NoType, WrongType}
 use Rattle.wire.specs.Frame.{maxMessageSize}
 use Rattle.wire.specs.Lists.{listed}
-use Rattle.message.specs.Fields.{fieldOf}
-use Rattle.message.specs.declared.Field.{Field}
-use Rattle.message.specs.declared.Field.the-variants as f
+use Rattle.protobuf.specs.Fields.{fieldOf}
+use Rattle.protobuf.specs.declared.Field.{Field}
+use Rattle.protobuf.specs.declared.Field.the-variants as f
 use Rattle.message.specs.declared.Kind.{Kind}
 use Rattle.message.specs.declared.Kind.the-variants.{Connect, Sync}
 use Rattle.message.specs.declared.Measured.{Measured}

@@ -1,136 +1,24 @@
 // The DCUtR HolePunch message (message.rs): written and read, with its addresses as an address list.
+use protobuf::Field;
 use refusal::Refusal;
 use wire::Entry;
 use wire::MAX_MESSAGE_SIZE;
-use wire::Varint;
 ghost use mathlib.Core.Path.{_≡_};
 ghost use mathlib.Core.Bool.{true};
-ghost use mathlib.Core.List.{List, _++_};
-ghost use Prim.Native.Nat.{ℕ, _+_, _<_, _≤_};
-ghost use lib.ListN.{length, take, drop, getD};
+ghost use mathlib.Core.List.{_++_};
+ghost use Prim.Native.Nat.{_+_, _≤_};
+ghost use lib.ListN.{length};
 ghost use lib.Seq.{sets};
-ghost use Rattle.wire.specs.Varint.{encoded, varintOf};
+ghost use Rattle.wire.specs.Varint.{encoded};
 ghost use Rattle.wire.specs.Frame.{maxMessageSize};
 ghost use Rattle.wire.specs.Lists.{entries, listed};
-ghost use Rattle.message.specs.Fields.{varintField, fixedField, bytesField, payloadOf, fieldOf};
-ghost use Rattle.message.specs.Message.{typeNumber, known, kindOf, contentOf, accepted, addresses, measured, over, withRoom, decodeOf, decodeInto};
+ghost use Rattle.message.specs.Message.{typeNumber, known, kindOf, contentOf, accepted, addresses, measured, decodeOf, decodeInto};
 ghost use Rattle.message.specs.Encoding.{typeField, addressField, addressFields, encodeOf, encodeInto, frameEncodeOf, frameEncodeInto};
-ghost use Rattle.message.specs.Refused.{addressList, readNumber, readValues, readBy, messageSize, frameSize, writeValues, writtenBy};
 
 // The type of a message: CONNECT is 100, SYNC is 300.
 pub enum Kind {
     Connect,
     Sync,
-}
-
-// ---- Fields
-
-// The largest field number.
-const MAX_FIELD: u64 = 536_870_911;
-
-enum Field {
-    Typed { value: u64, size: usize },
-    Address { start: usize, len: usize },
-    Other { size: usize },
-    Malformed,
-}
-
-// Field n of wire type 0, behind a tag of t bytes.
-fn varint_field(n: u64, t: usize, s: &[u8]) -> Field
-    requires { ⌜ t ≤ 10 ⌝ }
-    ensures { λ r. ⌜ r ≡ varintField n t (varintOf (now (s .entry))) ⌝ }
-{
-    match wire::first_varint(s) {
-        Varint::Malformed => Field::Malformed,
-        Varint::Value { value, next } => {
-            if n == 1 {
-                Field::Typed {
-                    value: value,
-                    size: t + next,
-                }
-            } else {
-                Field::Other { size: t + next }
-            }
-        }
-    }
-}
-
-// A field of k bytes, of wire type 1 or 5.
-fn fixed_field(k: usize, t: usize, s: &[u8]) -> Field
-    requires { ⌜ (t ≤ 10) × (k ≤ 8) ⌝ }
-    ensures { λ r. ⌜ r ≡ fixedField k t (now (s .entry)) ⌝ }
-{
-    if k <= s.len() {
-        Field::Other { size: t + k }
-    } else {
-        Field::Malformed
-    }
-}
-
-// Field n of wire type 2.
-fn bytes_field(n: u64, t: usize, s: &[u8]) -> Field
-    requires { ⌜ t ≤ 10 ⌝ }
-    ensures { λ r. ⌜ r ≡ bytesField n t (now (s .entry)) (varintOf (now (s .entry))) ⌝ }
-{
-    match wire::first_varint(s) {
-        Varint::Malformed => Field::Malformed,
-        Varint::Value { value, next } => {
-            let left = s.len() - next;
-            if (left as u64) < value {
-                return Field::Malformed;
-            }
-            let len = value as usize;
-            if n == 2 {
-                Field::Address {
-                    start: t + next,
-                    len: len,
-                }
-            } else {
-                Field::Other {
-                    size: t + next + len,
-                }
-            }
-        }
-    }
-}
-
-// Field n of wire type w.
-fn payload(n: u64, w: u64, t: usize, s: &[u8]) -> Field
-    requires { ⌜ t ≤ 10 ⌝ }
-    ensures { λ r. ⌜ r ≡ payloadOf n w t (now (s .entry)) ⌝ }
-{
-    if w == 0 {
-        return varint_field(n, t, s);
-    }
-    if w == 1 {
-        return fixed_field(8, t, s);
-    }
-    if w == 2 {
-        return bytes_field(n, t, s);
-    }
-    if w == 5 {
-        return fixed_field(4, t, s);
-    }
-    Field::Malformed
-}
-
-// The field that stands first.
-fn first_field(s: &[u8]) -> Field
-    ensures { λ r. ⌜ r ≡ fieldOf (now (s .entry)) ⌝ }
-{
-    match wire::first_varint(s) {
-        Varint::Malformed => Field::Malformed,
-        Varint::Value { value, next } => {
-            let n = value / 8;
-            if n == 0 {
-                return Field::Malformed;
-            }
-            if MAX_FIELD < n {
-                return Field::Malformed;
-            }
-            payload(n, value % 8, next, &s[next..])
-        }
-    }
 }
 
 // ---- Reading
@@ -172,7 +60,7 @@ fn measure(s: &[u8]) -> Measured
     let mut kind: u64 = 0;
     let mut size: usize = 0;
     while at < s.len() {
-        match first_field(&s[at..]) {
+        match protobuf::first_field(&s[at..]) {
             Field::Malformed => {
                 return Measured::Refused(Refusal::Malformed);
             }
@@ -210,7 +98,7 @@ fn put_addresses(s: &[u8], out: &mut [u8])
     let mut at: usize = 0;
     let mut p: usize = 0;
     while at < s.len() {
-        match first_field(&s[at..]) {
+        match protobuf::first_field(&s[at..]) {
             Field::Malformed => {
                 return;
             }
@@ -395,35 +283,3 @@ pub fn encode_frame(kind: Kind, list: &[u8], out: &mut [u8]) -> Encoded
         }
     }
 }
-
-// ---- Theorems
-
-// Reading what was written gives the type and the addresses back, for every type and list that is accepted.
-pub fn encoded_reads_back()
-    ensures { λ r. ⌜ ((k : Kind) (s out back : List ℕ) (n : ℕ) → ((i : ℕ) → getD s i 0 < 256) → encodeOf k s (length out) ≡ Encoded.Message n → length s ≤ length back → (decodeOf (take n (encodeInto k s out)) (length back) ≡ Decoded.Message k (length s)) × (decodeInto (take n (encodeInto k s out)) back ≡ over s back)) ⌝ }
-{}
-
-// A refusal changes no byte of the output.
-pub fn refused_changes_nothing()
-    ensures read { λ r. ⌜ ((m out : List ℕ) (why : Refusal) → decodeOf m (length out) ≡ Decoded.Refused why → decodeInto m out ≡ out) ⌝ }
-    ensures written { λ r. ⌜ ((k : Kind) (s out : List ℕ) (why : Refusal) → encodeOf k s (length out) ≡ Encoded.Refused why → encodeInto k s out ≡ out) ⌝ }
-    ensures framed { λ r. ⌜ ((k : Kind) (s out : List ℕ) (why : Refusal) → frameEncodeOf k s (length out) ≡ Encoded.Refused why → frameEncodeInto k s out ≡ out) ⌝ }
-{}
-
-// A room as long as the message is always enough for its list of addresses.
-pub fn room_is_enough()
-    ensures { λ r. ⌜ ((m : List ℕ) (room : ℕ) → length m ≤ maxMessageSize → length m ≤ room → decodeOf m room ≡ withRoom (contentOf m)) ⌝ }
-{}
-
-// What is read and written is answered by the number of the first line of the rule's table that fits; where none fits, by 0, the type that
-// was met last and the size.
-pub fn refused_by_the_rule()
-    ensures read { λ r. ⌜ ((m : List ℕ) (room : ℕ) → readValues (decodeOf m room) ≡ readBy m room) ⌝ }
-    ensures written { λ r. ⌜ ((k : Kind) (s : List ℕ) (room : ℕ) → writeValues (encodeOf k s room) ≡ writtenBy s (messageSize k s) (messageSize k s) room) ⌝ }
-    ensures framed { λ r. ⌜ ((k : Kind) (s : List ℕ) (room : ℕ) → writeValues (frameEncodeOf k s room) ≡ writtenBy s (messageSize k s) (frameSize k s) room) ⌝ }
-{}
-
-// Where none fits, the addresses of the fields stand in the output, in order, as a list from its first byte on.
-pub fn addresses_by_the_rule()
-    ensures { λ r. ⌜ ((m out : List ℕ) → readNumber m (length out) ≡ 0 → decodeInto m out ≡ addressList m ++ drop (length (addressList m)) out) ⌝ }
-{}

@@ -9,7 +9,7 @@ use Rattle.message.specs.Message.{Content, scan, contentOf, measured}
 use Rattle.message.proofs.Scan.{longer, sized, malformed, typed, wrong, address, address-long, other, scan-end, longer-none, longer-also, none-met, one-met}
 use borrow.Author.Needs.{needs}
 use Rattle.message.proofs.measure.Statement.{statement}
-use Rattle.message.specs.declared.Field.the-variants as f
+use Rattle.protobuf.specs.declared.Field.the-variants as f
 use Rattle.message.proofs.measure.Tie as tie
 
 abbrev Inv-loop : tie.InvT-loop

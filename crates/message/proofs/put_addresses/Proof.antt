@@ -12,7 +12,7 @@ use Rattle.message.proofs.Scan.{sized}
 use Rattle.message.proofs.Addresses.{Left, left-end, left-malformed, left-typed, left-other, left-entry}
 use borrow.Author.Needs.{needs}
 use Rattle.message.proofs.put_addresses.Statement.{statement}
-use Rattle.message.specs.declared.Field.the-variants as f
+use Rattle.protobuf.specs.declared.Field.the-variants as f
 use Rattle.message.proofs.put_addresses.Tie as tie
 
 abbrev Inv-loop : tie.InvT-loop

@@ -1,9 +1,0 @@
-use Rattle.message.proofs.ByRule.{stored-told}
-use Rattle.message.proofs.addresses_by_the_rule.Statement.{statement}
-use Rattle.message.proofs.addresses_by_the_rule.Tie as tie
-
-returns : tie.Need-returns
-returns c = stored-told
-
-pub addresses-by-the-rule-spec : {M : Type 1} → statement M
-addresses-by-the-rule-spec = tie.close (tie.spec returns)

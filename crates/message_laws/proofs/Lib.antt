@@ -1,0 +1,5 @@
+pub mod Fuel
+pub mod ReadBack
+pub mod Refusals
+pub mod Told
+pub mod ByRule
