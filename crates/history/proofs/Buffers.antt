@@ -18,8 +18,8 @@ use Rattle.circuit.specs.declared.state.Phase.{Phase}
 use Rattle.circuit.specs.declared.state.ConnectWrite.{ConnectWrite}
 use Rattle.circuit.specs.declared.state.ConnectWrite.the-variants.{Unsent, Held, Sent}
 use Rattle.inbound.specs.declared.InboundCircuit.{InboundCircuit}
-use Rattle.upgrade.specs.Inputs.{awaitsIn, awaits, frameBytes}
-use Rattle.upgrade.specs.Inputs as inputs
+use Rattle.inputs.specs.Inputs.{awaitsIn, awaits, frameBytes}
+use Rattle.inputs.specs.Inputs as inputs
 use Rattle.lent.specs.Calls.{bufferAfter}
 use Rattle.inbound.specs.Circuits.{answerOf, inputAnswer, inputBuffer}
 use Rattle.history.specs.Calls.{Call, up, input, tick, wrote, down, isRefused, stepOf}

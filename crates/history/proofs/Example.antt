@@ -21,11 +21,11 @@ use Rattle.ledger.specs.Ledger.{emptyLedger, refusesPunches}
 use Rattle.circuit.specs.Decisions.{silence, eventOf, resetOf, burstOf, sendingOf, decidedOf, quietOf, refusedOf}
 use Rattle.lent.specs.Brought.{broughtBy}
 use Rattle.circuit.specs.State.{inPhase, exchangingOf, punchingOf}
-use Rattle.upgrade.specs.Rounds.{isLive, openRound}
+use Rattle.rounds.specs.Rounds.{isLive, openRound}
 use Rattle.upgrade.specs.Ticks.{tickPunching}
 use Rattle.circuit.specs.Refusals.{inUse, checkOf}
 use Rattle.upgrade.specs.Ups.{announced, connectedOf, upAt}
-use Rattle.upgrade.specs.Inputs.{closing, inExchange, writeOf, firstInput, roundTrip, windowOf, openWindow, exchangeInput}
+use Rattle.inputs.specs.Inputs.{closing, inExchange, writeOf, firstInput, roundTrip, windowOf, openWindow, exchangeInput}
 use Rattle.lent.specs.Replies.{targetsFrom, peekedOf}
 use Rattle.lent.specs.Carried.{opens, framedBy, connectAfter, targetsAfter}
 use Rattle.circuit.specs.Calls.{startedOf, begunOf}

@@ -38,7 +38,7 @@ use Rattle.inbound.specs.Circuits.{answerOf, plainly, upAnswer, tickAnswer, inp
 use Rattle.lent.specs.Brought.{Brought, unfinished, failed, connect}
 use Rattle.circuit.specs.Refusals.{checkOf}
 use Rattle.upgrade.specs.Ups.{establishedAt, connectedOf, tookOf, taking, upAt}
-use Rattle.upgrade.specs.Inputs.{inputAt}
+use Rattle.inputs.specs.Inputs.{inputAt}
 use Rattle.upgrade.specs.Ticks.{tickAt}
 use Rattle.circuit.specs.Calls.{unless, wroteAt, wroteOf, downOf}
 use Rattle.lent.specs.Calls.{upIn, tickIn, peeked, hearing, inputIn}

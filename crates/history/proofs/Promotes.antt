@@ -41,16 +41,16 @@ use Rattle.circuit.specs.declared.decision.Said.{Said}
 use Rattle.circuit.specs.declared.decision.Fate.the-variants.{Kept}
 use Rattle.circuit.specs.declared.decision.Message.the-variants.{Connect}
 use Rattle.circuit.specs.declared.decision.Decision.{Decision}
-use Rattle.upgrade.specs.declared.input.Running.{Running}
-use Rattle.upgrade.specs.declared.input.Heard.{Heard}
-use Rattle.upgrade.specs.declared.input.Heard.the-variants as heard
+use Rattle.inputs.specs.declared.Running.{Running}
+use Rattle.inputs.specs.declared.Heard.{Heard}
+use Rattle.inputs.specs.declared.Heard.the-variants as heard
 use Rattle.inbound.specs.declared.InboundCircuit.{InboundCircuit}
 use Rattle.circuit.specs.State.{inPhase, doneOf, exchangingOf, punchingOf, isDone}
 use Rattle.circuit.specs.Decisions.{silence, eventOf, resetOf, sendingOf, decidedOf, quietOf, refusedOf}
-use Rattle.upgrade.specs.Rounds.{isLive, noRound, openStream, openRound, failRound}
+use Rattle.rounds.specs.Rounds.{isLive, noRound, openStream, openRound, failRound}
 use Rattle.upgrade.specs.Ticks.{tickHandshaking, stopped, tickExchange, dueBurst, tickPunching, tickAt}
 use Rattle.upgrade.specs.Ups.{upgradedOf, announced, establishedAt, connectedOf, upAt}
-use Rattle.upgrade.specs.Inputs.{closing, inExchange, firstInput, openWindow, replied, laterInput, timelyInput, inTime, exchangeInput, inputAt}
+use Rattle.inputs.specs.Inputs.{closing, inExchange, firstInput, openWindow, replied, laterInput, timelyInput, inTime, exchangeInput, inputAt}
 use Rattle.circuit.specs.Refusals.{checkOf}
 use Rattle.circuit.specs.Calls.{begunOf, startedOf, unless, wroteTo, wroteAt, wroteOf, downOf}
 use Rattle.lent.specs.Calls.{upIn, tickIn, hearing, inputIn}

@@ -41,7 +41,7 @@ use Rattle.circuit.specs.Decisions.{silence, eventOf, resetOf, burstOf, decided
 use Rattle.lent.specs.Carried.{messageOf, targetsAfter, ledgerAfter}
 use Rattle.lent.specs.Carried as carried
 use Rattle.circuit.specs.State.{inPhase, doneOf, exchangingOf}
-use Rattle.upgrade.specs.Rounds.{isLive, noRound, openStream, openRound, failRound}
+use Rattle.rounds.specs.Rounds.{isLive, noRound, openStream, openRound, failRound}
 use Rattle.upgrade.specs.Ticks.{tickHandshaking, stopped, tickExchange, dueBurst, tickPunching, tickAt}
 use Rattle.upgrade.specs.Ups.{upgradedOf, announced, establishedAt, connectedOf, tookOf, taking, upAt}
 use Rattle.history.specs.Calls.{isRefused}

@@ -34,7 +34,7 @@ use Rattle.vocabulary.specs.declared.StreamInput.{StreamInput}
 use Rattle.vocabulary.specs.declared.StreamInput.the-variants as i
 use Rattle.vocabulary.specs.declared.Host.{Host}
 use Rattle.circuit.specs.declared.decision.Said.{Said}
-use Rattle.upgrade.specs.declared.input.Running.{Running}
+use Rattle.inputs.specs.declared.Running.{Running}
 use Rattle.vocabulary.specs.declared.Effect.the-variants.{Nothing, Burst}
 use Rattle.circuit.specs.Decisions.{silence, eventOf, resetOf, burstOf, sendingOf, decidedOf, quietOf, refusedOf}
 use Rattle.circuit.specs.declared.decision.Fate.the-variants.{Kept}
@@ -43,9 +43,9 @@ use Rattle.lent.specs.declared.reply.Peeked.{Peeked}
 use Rattle.lent.specs.Carried.{messageOf}
 use Rattle.lent.specs.Calls.{peeked, hearing}
 use Rattle.lent.specs.Brought.{Brought, unfinished, failed, connect, broughtBy}
-use Rattle.upgrade.specs.Rounds.{failRound}
+use Rattle.rounds.specs.Rounds.{failRound}
 use Rattle.upgrade.specs.Ticks.{tickExchange}
-use Rattle.upgrade.specs.Inputs.{closing, inExchange, writeOf, firstInput, openWindow, replied, laterInput, timelyInput, inTime, exchangeInput}
+use Rattle.inputs.specs.Inputs.{closing, inExchange, writeOf, firstInput, openWindow, replied, laterInput, timelyInput, inTime, exchangeInput}
 use Rattle.circuit.specs.State.{termsOf, inPhase, punchingOf}
 use Rattle.lent.specs.Replies.{targetsFrom, peekedOf}
 use Rattle.history.specs.Book.{Window, Asking, Stage, asking, Book, isClosing, tripOf, opened}

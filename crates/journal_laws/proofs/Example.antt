@@ -27,10 +27,10 @@ use Rattle.ledger.specs.Ledger.{emptyLedger, refusesPunches}
 use Rattle.circuit.specs.State.{inPhase, exchangingOf, punchingOf}
 use Rattle.circuit.specs.Decisions.{eventOf, silence, resetOf, burstOf, sendingOf, decidedOf, quietOf}
 use Rattle.circuit.specs.Refusals.{inUse, checkOf}
-use Rattle.upgrade.specs.Rounds.{isLive, openRound}
+use Rattle.rounds.specs.Rounds.{isLive, openRound}
 use Rattle.upgrade.specs.Ticks.{tickPunching}
 use Rattle.upgrade.specs.Ups.{announced, connectedOf, upAt}
-use Rattle.upgrade.specs.Inputs.{closing, inExchange, writeOf, firstInput, roundTrip, windowOf, openWindow, exchangeInput, awaitsIn}
+use Rattle.inputs.specs.Inputs.{closing, inExchange, writeOf, firstInput, roundTrip, windowOf, openWindow, exchangeInput, awaitsIn}
 use Rattle.lent.specs.Brought.{broughtBy}
 use Rattle.lent.specs.Replies.{targetsFrom, peekedOf}
 use Rattle.circuit.specs.Decisions.{lengthOf}

@@ -31,13 +31,13 @@ use Rattle.circuit.specs.declared.state.ConnectWrite.the-variants.{Unsent, Held
 use Rattle.circuit.specs.declared.decision.Message.the-variants.{Connect}
 use Rattle.circuit.specs.declared.decision.Said.{Said}
 use Rattle.circuit.specs.declared.decision.Decision.{Decision}
-use Rattle.upgrade.specs.declared.input.Running.{Running}
-use Rattle.upgrade.specs.declared.input.Heard.{Heard}
-use Rattle.upgrade.specs.declared.input.Heard.the-variants as heard
+use Rattle.inputs.specs.declared.Running.{Running}
+use Rattle.inputs.specs.declared.Heard.{Heard}
+use Rattle.inputs.specs.declared.Heard.the-variants as heard
 use Rattle.circuit.specs.Decisions.{silence, resetOf, sendingOf, decidedOf, quietOf}
-use Rattle.upgrade.specs.Rounds.{isLive, noRound, openStream, openRound, failRound}
+use Rattle.rounds.specs.Rounds.{isLive, noRound, openStream, openRound, failRound}
 use Rattle.upgrade.specs.Ticks.{resetAtEnd, stopped, tickExchange}
-use Rattle.upgrade.specs.Inputs.{closing, firstInput, laterInput, timelyInput, inTime, exchangeInput, inputAt, wentOut, isData, awaitsIn, awaits}
+use Rattle.inputs.specs.Inputs.{closing, firstInput, laterInput, timelyInput, inTime, exchangeInput, inputAt, wentOut, isData, awaitsIn, awaits}
 use Rattle.lent.specs.Carried.{targetsAfter}
 
 -- ---- a limit ran out, or none

@@ -32,12 +32,12 @@ use Rattle.frames.specs.Sent.{ownConnect}
 use Rattle.circuit.specs.declared.state.Core.{Core}
 use Rattle.circuit.specs.declared.decision.Fate.the-variants.{Kept, Removed, Opened}
 use Rattle.circuit.specs.declared.decision.Message.the-variants as message
-use Rattle.upgrade.specs.declared.input.Heard.the-variants as heard
+use Rattle.inputs.specs.declared.Heard.the-variants as heard
 use Rattle.lent.specs.declared.reply.Peeked.{Peeked}
 use Rattle.circuit.specs.State.{termsOf}
 use Rattle.circuit.specs.Decisions.{refusedOf}
 use Rattle.circuit.specs.Refusals.{checkOf}
-use Rattle.upgrade.specs.Inputs.{inputAt, awaits, frameBytes}
+use Rattle.inputs.specs.Inputs.{inputAt, awaits, frameBytes}
 use Rattle.lent.specs.Brought.{broughtBy}
 use Rattle.lent.specs.Replies.{peekedOf}
 use Rattle.lent.specs.Carried.{sentAfter, ledgerAfter, opens, connectAfter, withConnect, withCore, framedBy, targetsAfter}

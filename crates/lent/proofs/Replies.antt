@@ -33,7 +33,7 @@ use Rattle.candidates.specs.Selection.{heldTerms, selected, packed}
 use Rattle.candidates.specs.declared.Terms.{Terms}
 use Rattle.lent.specs.Brought.{Brought, unfinished, failed, connect, fromContent, fromFrame, broughtBy}
 use Rattle.lent.specs.Replies.{noList, chosenFrom, targetsFrom, peekedOf}
-use Rattle.upgrade.specs.declared.input.Heard.the-variants as heard
+use Rattle.inputs.specs.declared.Heard.the-variants as heard
 
 -- ---- the reply
 

@@ -24,7 +24,7 @@ use Rattle.circuit.specs.Decisions.{refusedOf}
 use Rattle.circuit.specs.Refusals.{checkOf}
 use Rattle.upgrade.specs.Ticks.{tickAt}
 use Rattle.upgrade.specs.Ups.{upAt}
-use Rattle.upgrade.specs.Inputs.{inputAt, awaits, frameBytes}
+use Rattle.inputs.specs.Inputs.{inputAt, awaits, frameBytes}
 use Rattle.lent.specs.Brought.{broughtBy}
 use Rattle.lent.specs.Replies.{peekedOf}
 use Rattle.lent.specs.Carried.{framedBy}

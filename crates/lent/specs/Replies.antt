@@ -7,7 +7,7 @@ use Rattle.wire.specs.Lists.{listed, entries}
 use Rattle.candidates.specs.declared.Chosen.{Chosen}
 use Rattle.candidates.specs.declared.Terms.{Terms}
 use Rattle.candidates.specs.Selection.{heldTerms, selected, packed, answered}
-use Rattle.upgrade.specs.declared.input.Heard.the-variants as heard
+use Rattle.inputs.specs.declared.Heard.the-variants as heard
 use Rattle.lent.specs.declared.reply.Peeked.{Peeked}
 use Rattle.lent.specs.Brought.{Brought, unfinished, failed, connect}
 

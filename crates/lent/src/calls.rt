@@ -13,10 +13,9 @@ use frames::FrameBytes;
 use ids::ConnectionId;
 use ids::PeerId;
 use ids::StreamId;
+use inputs::Heard;
 use ledger::Ledger;
 use refusal::Refusal;
-use upgrade::input;
-use upgrade::input::Heard;
 use upgrade::tick;
 use upgrade::up;
 use vocabulary::Host;
@@ -27,7 +26,7 @@ ghost use Rattle.prelude.specs.Choice.{pick};
 ghost use Rattle.frames.specs.Gathering.{gatheredInto};
 ghost use Rattle.ledger.specs.Ledger.{tablesOf, laid, refusesPunches};
 ghost use Rattle.circuit.specs.State.{termsOf};
-ghost use Rattle.upgrade.specs.Inputs.{frameBytes};
+ghost use Rattle.inputs.specs.Inputs.{frameBytes};
 ghost use Rattle.lent.specs.Carried.{sentAfter, ledgerAfter, connectAfter, targetsAfter, noFrame, noAims};
 ghost use Rattle.lent.specs.Calls.{upIn, upOf, tickIn, tickOf, peeked, hearing, inputIn, inputOf, isAccepted, bufferAfter};
 
@@ -69,13 +68,13 @@ fn hear(
 {
     let source = c.source;
     let phase = c.phase;
-    let count = input::frame_bytes(phase);
+    let count = inputs::frame_bytes(phase);
     let terms = state::terms(c.settings);
     let peeked = reply::peek_data(bytes, buffer, count, terms);
     let heard = peeked.heard;
     let chosen = peeked.targets;
     let full = ledger::refuses_punches(ledger, source);
-    let d = input::input(c, host, stream, input, pending, heard, chosen.len, full);
+    let d = inputs::input(c, host, stream, input, pending, heard, chosen.len, full);
     let outcome = d.outcome;
     let window = d.window;
     store(is_accepted(outcome), bytes, buffer, count);
@@ -110,7 +109,7 @@ fn input_in(
             return decision::refused(c, why);
         }
         Outcome::Accepted => {
-            if input::awaits_reply(c, host.at, stream, input) {
+            if inputs::awaits_reply(c, host.at, stream, input) {
                 return hear(
                     c,
                     targets,
@@ -123,7 +122,7 @@ fn input_in(
                     pending,
                 );
             }
-            return input::input(c, host, stream, input, pending, Heard::Nothing, 0, false);
+            return inputs::input(c, host, stream, input, pending, Heard::Nothing, 0, false);
         }
     }
 }

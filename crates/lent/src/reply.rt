@@ -2,7 +2,7 @@
 use candidates::Chosen;
 use candidates::Terms;
 use initiator::Reply;
-use upgrade::input::Heard;
+use inputs::Heard;
 ghost use mathlib.Core.Path.{_≡_};
 ghost use Rattle.lent.specs.Brought.{broughtBy};
 ghost use Rattle.lent.specs.Replies.{noList, chosenFrom, peekedOf};

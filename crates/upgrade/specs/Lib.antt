@@ -1,4 +1,2 @@
-pub mod Rounds
 pub mod Ticks
 pub mod Ups
-pub mod Inputs

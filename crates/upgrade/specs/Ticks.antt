@@ -20,7 +20,7 @@ use Rattle.circuit.specs.declared.decision.Said.{Said}
 use Rattle.circuit.specs.declared.decision.Decision.{Decision}
 use Rattle.circuit.specs.State.{inPhase, doneOf}
 use Rattle.circuit.specs.Decisions.{eventOf, resetOf, burstOf, decidedOf, quietOf}
-use Rattle.upgrade.specs.Rounds.{openRound, failRound}
+use Rattle.rounds.specs.Rounds.{openRound, failRound}
 
 unfoldable pub tickHandshaking : Core → ℕ → ℕ → Decision
 tickHandshaking c at deadline =

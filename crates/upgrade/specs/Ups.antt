@@ -16,7 +16,7 @@ use Rattle.circuit.specs.declared.decision.Said.{Said}
 use Rattle.circuit.specs.declared.decision.Decision.{Decision}
 use Rattle.circuit.specs.State.{doneOf, isDone}
 use Rattle.circuit.specs.Decisions.{eventOf, decidedOf, quietOf}
-use Rattle.upgrade.specs.Rounds.{openRound}
+use Rattle.rounds.specs.Rounds.{openRound}
 
 unfoldable pub upgradedOf : Core → ConnectionId → Effect → Decision
 upgradedOf c new third = decidedOf (doneOf c) Kept (eventOf (Upgrade (c .source) (c .circuit) new) third) Nothing

@@ -1,5 +1,4 @@
 // The clock's part (inbound.rs, `on_tick`).
-use crate::rounds;
 use budget::UpgradeStop;
 use circuit::decision;
 use circuit::decision::Decision;

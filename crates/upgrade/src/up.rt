@@ -1,5 +1,4 @@
 // A connection is established (inbound.rs, `on_connection_established`).
-use crate::rounds;
 use budget::UpgradeBudget;
 use circuit::decision;
 use circuit::decision::Decision;
