@@ -27,7 +27,7 @@ use Rattle.circuit.specs.Refusals.{inUse, checkOf}
 use Rattle.upgrade.specs.Ups.{announced, connectedOf, upAt}
 use Rattle.inputs.specs.Inputs.{closing, inExchange, writeOf, firstInput, roundTrip, windowOf, openWindow, exchangeInput}
 use Rattle.lent.specs.Replies.{targetsFrom, peekedOf}
-use Rattle.lent.specs.Carried.{opens, framedBy, connectAfter, targetsAfter}
+use Rattle.carried.specs.Carried.{opens, framedBy, connectAfter, targetsAfter}
 use Rattle.circuit.specs.Calls.{startedOf, begunOf}
 use Rattle.lent.specs.Calls.{upIn, upOf, tickIn, tickOf, hearing, inputIn, inputOf}
 use Rattle.inbound.specs.Circuits.{answerOf, newAnswer, upAnswer, tickAnswer, inputAnswer}

@@ -32,8 +32,8 @@ use Rattle.vocabulary.specs.declared.Outcome.the-variants.{Accepted, Refused}
 use Rattle.circuit.specs.declared.decision.Decision.{Decision}
 use Rattle.inbound.specs.declared.Answer.{Answer}
 use Rattle.circuit.specs.Decisions.{silence, eventOf, decidedOf, quietOf, refusedOf}
-use Rattle.lent.specs.Carried.{targetsAfter}
-use Rattle.lent.specs.Carried as carried
+use Rattle.carried.specs.Carried.{targetsAfter}
+use Rattle.carried.specs.Carried as carried
 use Rattle.inbound.specs.Circuits.{answerOf, plainly, upAnswer, tickAnswer, inputAnswer, wroteAnswer, downAnswer}
 use Rattle.lent.specs.Brought.{Brought, unfinished, failed, connect}
 use Rattle.circuit.specs.Refusals.{checkOf}

@@ -21,7 +21,7 @@ use Rattle.circuit.specs.declared.decision.Fate.{Fate}
 use Rattle.circuit.specs.declared.decision.Fate.the-variants.{Kept, Removed, Opened}
 use Rattle.inbound.specs.declared.InboundCircuit.{InboundCircuit}
 use Rattle.inbound.specs.declared.Answer.{Answer}
-use Rattle.lent.specs.Carried.{messageOf, opens, connectAfter, withConnect, withCore, framedBy, targetsAfter}
+use Rattle.carried.specs.Carried.{messageOf, opens, connectAfter, withConnect, withCore, framedBy, targetsAfter}
 use Rattle.lent.specs.Calls.{upIn, upOf, tickIn, tickOf, peeked, inputIn, inputOf}
 use Rattle.inbound.specs.Circuits.{answerOf, upAnswer, tickAnswer, inputAnswer}
 

@@ -38,8 +38,8 @@ use Rattle.inbound.specs.declared.Answer.{Answer}
 use Rattle.circuit.specs.declared.decision.Fate.the-variants.{Kept, Removed, Opened}
 use Rattle.circuit.specs.declared.decision.Message.the-variants as message
 use Rattle.circuit.specs.Decisions.{silence, eventOf, resetOf, burstOf, decidedOf, quietOf, refusedOf}
-use Rattle.lent.specs.Carried.{messageOf, targetsAfter, ledgerAfter}
-use Rattle.lent.specs.Carried as carried
+use Rattle.carried.specs.Carried.{messageOf, targetsAfter, ledgerAfter}
+use Rattle.carried.specs.Carried as carried
 use Rattle.circuit.specs.State.{inPhase, doneOf, exchangingOf}
 use Rattle.rounds.specs.Rounds.{isLive, noRound, openStream, openRound, failRound}
 use Rattle.upgrade.specs.Ticks.{tickHandshaking, stopped, tickExchange, dueBurst, tickPunching, tickAt}

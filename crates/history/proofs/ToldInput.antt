@@ -40,7 +40,7 @@ use Rattle.circuit.specs.Decisions.{silence, eventOf, resetOf, burstOf, sending
 use Rattle.circuit.specs.declared.decision.Fate.the-variants.{Kept}
 use Rattle.circuit.specs.declared.decision.Message.the-variants.{Connect, Sync}
 use Rattle.lent.specs.declared.reply.Peeked.{Peeked}
-use Rattle.lent.specs.Carried.{messageOf}
+use Rattle.carried.specs.Carried.{messageOf}
 use Rattle.lent.specs.Calls.{peeked, hearing}
 use Rattle.lent.specs.Brought.{Brought, unfinished, failed, connect, broughtBy}
 use Rattle.rounds.specs.Rounds.{failRound}

@@ -20,7 +20,7 @@ use Rattle.circuit.specs.declared.state.Phase.the-variants.{Handshaking, Done}
 use Rattle.circuit.specs.declared.decision.Message.the-variants as message
 use Rattle.inbound.specs.declared.Answer.{Answer}
 use Rattle.circuit.specs.Decisions.{silence, eventOf, decidedOf, quietOf, refusedOf}
-use Rattle.lent.specs.Carried.{messageOf, sentAfter}
+use Rattle.carried.specs.Carried.{messageOf, sentAfter}
 use Rattle.circuit.specs.Decisions.{lengthOf}
 use Rattle.circuit.specs.Calls.{begunOf, startedOf}
 use Rattle.inbound.specs.Circuits.{answerOf, madeOf}

@@ -15,7 +15,7 @@ use Rattle.circuit.specs.declared.decision.Decision.{Decision}
 use Rattle.inbound.specs.declared.InboundCircuit.{InboundCircuit}
 use Rattle.inbound.specs.declared.Answer.{Answer}
 use Rattle.circuit.specs.State.{termsOf}
-use Rattle.lent.specs.Carried.{messageOf, ledgerAfter, connectAfter, targetsAfter, noFrame, noAims}
+use Rattle.carried.specs.Carried.{messageOf, ledgerAfter, connectAfter, targetsAfter, noFrame, noAims}
 use Rattle.circuit.specs.Decisions.{lengthOf}
 use Rattle.circuit.specs.Calls.{startedOf, wroteOf, downOf}
 use Rattle.lent.specs.Calls.{upOf, tickOf, peeked, inputOf, bufferAfter}

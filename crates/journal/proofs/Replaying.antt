@@ -18,7 +18,7 @@ use Rattle.journal_lines.specs.declared.First.{First}
 use Rattle.journal_prints.specs.Room.{room, isRefused}
 use Rattle.journal_prints.proofs.Room.{short}
 use Rattle.ledger.specs.Ledger.{PathLedger, tablesOf, emptyLedger}
-use Rattle.lent.specs.Carried.{noFrame, noAims}
+use Rattle.carried.specs.Carried.{noFrame, noAims}
 use Rattle.lines.specs.Lines.{longest}
 use Rattle.journal_calls.specs.Calls.{Journal, stateOf, whole, newJournal}
 use Rattle.journal_calls.specs.declared.State.{State as Numbers}

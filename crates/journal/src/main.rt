@@ -10,7 +10,7 @@ ghost use Rattle.wire.specs.Frame.{maxFrameSize};
 ghost use Rattle.line_program.specs.Reads.{left, NextLine};
 ghost use Rattle.journal_prints.specs.Room.{room};
 ghost use Rattle.ledger.specs.Ledger.{tablesOf, emptyLedger};
-ghost use Rattle.lent.specs.Carried.{noFrame, noAims};
+ghost use Rattle.carried.specs.Carried.{noFrame, noAims};
 ghost use Rattle.journal_calls.specs.declared.State.{State as Numbers};
 ghost use Rattle.lines.specs.Lines.{longest};
 ghost use Rattle.journal_calls.specs.Calls.{whole};

@@ -33,10 +33,10 @@ use Rattle.circuit.specs.declared.state.Core.{Core}
 use Rattle.circuit.specs.declared.decision.Decision.{Decision}
 use Rattle.circuit.specs.State.{termsOf}
 use Rattle.circuit.specs.Decisions.{refusedOf, quietOf, decidedOf, silence, eventOf}
-use Rattle.lent.specs.Carried.{sentAfter, ledgerAfter, opens, connectAfter, targetsAfter}
+use Rattle.carried.specs.Carried.{sentAfter, ledgerAfter, opens, connectAfter, targetsAfter}
 use Rattle.circuit.specs.Calls.{startedOf, wroteOf, downOf}
 use Rattle.lent.specs.Calls.{upOf, tickOf, peeked, bufferAfter}
-use Rattle.lent.specs.Carried.{noFrame, noAims}
+use Rattle.carried.specs.Carried.{noFrame, noAims}
 use Rattle.inbound.specs.Circuits.{decidedAt}
 use Rattle.lent.proofs.Turned.{Whole, up-whole, tick-whole, input-whole}
 use Rattle.journal_calls.specs.declared.State.{State}

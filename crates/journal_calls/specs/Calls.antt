@@ -26,10 +26,10 @@ use Rattle.circuit.specs.declared.decision.Decision.{Decision}
 use Rattle.inbound.specs.declared.InboundCircuit.{InboundCircuit}
 use Rattle.circuit.specs.State.{termsOf}
 use Rattle.circuit.specs.Decisions.{lengthOf}
-use Rattle.lent.specs.Carried.{sentAfter, ledgerAfter, connectAfter, targetsAfter}
+use Rattle.carried.specs.Carried.{sentAfter, ledgerAfter, connectAfter, targetsAfter}
 use Rattle.circuit.specs.Calls.{startedOf, wroteOf, downOf}
 use Rattle.lent.specs.Calls.{upOf, tickOf, peeked, bufferAfter}
-use Rattle.lent.specs.Carried.{noFrame, noAims}
+use Rattle.carried.specs.Carried.{noFrame, noAims}
 use Rattle.inbound.specs.Circuits.{decidedAt}
 use Rattle.circuit.specs.Questions.{claimOf}
 use Rattle.journal_effects.specs.declared.Effects.{Effects}

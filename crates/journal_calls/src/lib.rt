@@ -25,7 +25,7 @@ ghost use mathlib.Core.Path.{_≡_};
 ghost use Rattle.path.specs.declared.DialPurpose.the-variants.{Punch};
 ghost use Rattle.ledger.specs.Ledger.{tablesOf, laid, dialStarted, forgotten, attributed};
 ghost use Rattle.circuit.specs.State.{termsOf};
-ghost use Rattle.lent.specs.Carried.{sentAfter, ledgerAfter, connectAfter, noFrame, noAims};
+ghost use Rattle.carried.specs.Carried.{sentAfter, ledgerAfter, connectAfter, noFrame, noAims};
 ghost use Rattle.circuit.specs.Calls.{startedOf, wroteOf, downOf};
 ghost use Rattle.lent.specs.Calls.{upOf, tickOf};
 ghost use Rattle.journal_calls.specs.Calls.{whole, turned, noEffects, saying, effectsOf, settledIn, startedIn, clearedBy, inputTurn, expired, claimFor, saidOf, namedAs};

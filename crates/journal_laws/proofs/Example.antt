@@ -34,7 +34,7 @@ use Rattle.inputs.specs.Inputs.{closing, inExchange, writeOf, firstInput, round
 use Rattle.lent.specs.Brought.{broughtBy}
 use Rattle.lent.specs.Replies.{targetsFrom, peekedOf}
 use Rattle.circuit.specs.Decisions.{lengthOf}
-use Rattle.lent.specs.Carried.{sentAfter, ledgerAfter, opens, connectAfter, framedBy, targetsAfter}
+use Rattle.carried.specs.Carried.{sentAfter, ledgerAfter, opens, connectAfter, framedBy, targetsAfter}
 use Rattle.circuit.specs.Calls.{begunOf, startedOf}
 use Rattle.lent.specs.Calls.{upIn, upOf, tickIn, tickOf, hearing, inputIn, inputOf, bufferAfter}
 use Rattle.journal_prints.specs.Outputs.{withCommas, targetsText}

@@ -24,7 +24,7 @@ ghost use lib.ListN.{length, replicate};
 ghost use Rattle.text.specs.Printed.{printed, behind};
 ghost use Rattle.ledger.specs.Ledger.{tablesOf, laid};
 ghost use Rattle.circuit.specs.State.{termsOf};
-ghost use Rattle.lent.specs.Carried.{sentAfter, ledgerAfter, connectAfter};
+ghost use Rattle.carried.specs.Carried.{sentAfter, ledgerAfter, connectAfter};
 ghost use Rattle.lent.specs.Calls.{upOf, tickOf};
 ghost use Rattle.lines.specs.Lines.{longest};
 ghost use Rattle.journal_calls.specs.Calls.{whole, stateOf, turned, newJournal, settledIn, inputTurn, expired};

@@ -38,7 +38,7 @@ use Rattle.circuit.specs.Decisions.{silence, resetOf, sendingOf, decidedOf, qui
 use Rattle.rounds.specs.Rounds.{isLive, noRound, openStream, openRound, failRound}
 use Rattle.upgrade.specs.Ticks.{resetAtEnd, stopped, tickExchange}
 use Rattle.inputs.specs.Inputs.{closing, firstInput, laterInput, timelyInput, inTime, exchangeInput, inputAt, wentOut, isData, awaitsIn, awaits}
-use Rattle.lent.specs.Carried.{targetsAfter}
+use Rattle.carried.specs.Carried.{targetsAfter}
 
 -- ---- a limit ran out, or none
 

@@ -1,4 +1,4 @@
 pub mod Replies
-pub mod Carries
 pub mod Awaits
+pub mod Hears
 pub mod Turned

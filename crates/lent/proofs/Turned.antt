@@ -50,7 +50,7 @@ use Rattle.rounds.specs.Rounds.{isLive, noRound, openStream, openRound, failRou
 use Rattle.upgrade.specs.Ticks.{tickHandshaking, resetAtEnd, stopped, tickExchange, dueBurst, tickPunching, tickAt}
 use Rattle.upgrade.specs.Ups.{upgradedOf, pathSaid, announced, establishedAt, connectedOf, upAt}
 use Rattle.inputs.specs.Inputs.{closing, inExchange, firstInput, openWindow, replied, laterInput, timelyInput, inTime, exchangeInput, inputAt}
-use Rattle.lent.specs.Carried.{opens, withCore, withConnect, framedBy}
+use Rattle.carried.specs.Carried.{opens, withCore, withConnect, framedBy}
 use Rattle.circuit.specs.Calls.{unless}
 use Rattle.lent.specs.Calls.{upIn, upOf, tickIn, tickOf, peeked, hearing, inputIn, inputOf}
 

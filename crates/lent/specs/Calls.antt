@@ -27,7 +27,7 @@ use Rattle.upgrade.specs.Ups.{upAt}
 use Rattle.inputs.specs.Inputs.{inputAt, awaits, frameBytes}
 use Rattle.lent.specs.Brought.{broughtBy}
 use Rattle.lent.specs.Replies.{peekedOf}
-use Rattle.lent.specs.Carried.{framedBy}
+use Rattle.carried.specs.Carried.{framedBy}
 
 -- ---- up, tick and input
 

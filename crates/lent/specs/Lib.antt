@@ -1,4 +1,3 @@
 pub mod Brought
 pub mod Replies
-pub mod Carried
 pub mod Calls

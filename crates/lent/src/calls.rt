@@ -1,7 +1,6 @@
 // The calls of a circuit whose bytes are lent: `connect`, the round's CONNECT; `targets`, those of the punch window; `sent`, where the message
 // that goes out is put; and the path ledger. Each answers the core that it leaves.
 use crate::TargetBytes;
-use crate::carried;
 use crate::reply;
 use candidates::Chosen;
 use circuit::decision;
@@ -27,7 +26,7 @@ ghost use Rattle.frames.specs.Gathering.{gatheredInto};
 ghost use Rattle.ledger.specs.Ledger.{tablesOf, laid, refusesPunches};
 ghost use Rattle.circuit.specs.State.{termsOf};
 ghost use Rattle.inputs.specs.Inputs.{frameBytes};
-ghost use Rattle.lent.specs.Carried.{sentAfter, ledgerAfter, connectAfter, targetsAfter, noFrame, noAims};
+ghost use Rattle.carried.specs.Carried.{sentAfter, ledgerAfter, connectAfter, targetsAfter, noFrame, noAims};
 ghost use Rattle.lent.specs.Calls.{upIn, upOf, tickIn, tickOf, peeked, hearing, inputIn, inputOf, isAccepted, bufferAfter};
 
 // ---- input

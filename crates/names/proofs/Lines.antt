@@ -45,11 +45,11 @@ use Rattle.inbound.specs.declared.InboundCircuit.{InboundCircuit}
 use Rattle.inbound.specs.declared.Answer.{Answer}
 use Rattle.circuit.specs.State.{isDone}
 use Rattle.circuit.specs.Decisions.{eventOf, silence, decidedOf, quietOf, refusedOf}
-use Rattle.lent.specs.Carried.{messageOf, sentAfter}
+use Rattle.carried.specs.Carried.{messageOf, sentAfter}
 use Rattle.circuit.specs.Decisions.{lengthOf}
 use Rattle.circuit.specs.Calls.{begunOf, startedOf, wroteOf, downOf}
 use Rattle.lent.specs.Calls.{upOf, tickOf}
-use Rattle.lent.specs.Carried.{noFrame, noAims}
+use Rattle.carried.specs.Carried.{noFrame, noAims}
 use Rattle.inbound.specs.Circuits.{answerOf, newAnswer, upAnswer, tickAnswer, decidedAt, inputAnswer, inputBuffer, wroteAnswer, downAnswer}
 use Rattle.circuit.specs.Questions.{claimOf}
 use Rattle.history.specs.Calls.{Call, up, input, tick, wrote, down, isRefused, stepOf}

@@ -1,6 +1,6 @@
 use denote.Ref.{now}
-use Rattle.lent.proofs.Carries.{heard-then}
-use Rattle.lent.specs.Carried.{targetsAfter}
+use Rattle.lent.proofs.Hears.{heard-then}
+use Rattle.carried.specs.Carried.{targetsAfter}
 use borrow.Author.Needs.{needs}
 use Rattle.lent.proofs.calls.hear.Statement.{statement}
 use Rattle.lent.proofs.calls.hear.Tie as tie

@@ -1,6 +1,6 @@
 use denote.Ref.{now}
-use Rattle.lent.proofs.Carries.{short-left, turned-left, heard-left, unheard-left}
-use Rattle.lent.specs.Carried.{targetsAfter}
+use Rattle.lent.proofs.Hears.{short-left, turned-left, heard-left, unheard-left}
+use Rattle.carried.specs.Carried.{targetsAfter}
 use Rattle.lent.specs.Calls.{inputIn}
 use Rattle.lent.specs.Calls.{bufferAfter}
 use borrow.Author.Needs.{needs}

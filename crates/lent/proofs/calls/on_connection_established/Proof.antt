@@ -1,7 +1,7 @@
 use Rattle.lent.specs.Calls.{upOf}
 use denote.Ref.{now}
 use Rattle.circuit.specs.State.{termsOf}
-use Rattle.lent.proofs.Carries.{done}
+use Rattle.carried.proofs.Carries.{done}
 use borrow.Author.Needs.{needs}
 use Rattle.lent.proofs.calls.on_connection_established.Statement.{statement}
 use Rattle.lent.proofs.calls.on_connection_established.Tie as tie

@@ -1,7 +1,7 @@
 use Rattle.lent.specs.Calls.{inputOf}
 use denote.Ref.{now}
 use Rattle.circuit.specs.State.{termsOf}
-use Rattle.lent.proofs.Carries.{done-input}
+use Rattle.lent.proofs.Hears.{done-input}
 use borrow.Author.Needs.{needs}
 use Rattle.lent.proofs.calls.on_dcutr_stream_input.Statement.{statement}
 use Rattle.lent.proofs.calls.on_dcutr_stream_input.Tie as tie

@@ -1,9 +1,9 @@
 use mathlib.Core.Path.{_∙_}
-use Rattle.lent.proofs.Carries.{sets-whole}
+use Rattle.carried.proofs.Carries.{sets-whole}
 use mathlib.Core.Path.{sym}
 use borrow.Author.Needs.{needs}
-use Rattle.lent.proofs.carried.copy_targets.Statement.{statement}
-use Rattle.lent.proofs.carried.copy_targets.Tie as tie
+use Rattle.carried.proofs.copy_targets.Statement.{statement}
+use Rattle.carried.proofs.copy_targets.Tie as tie
 
 targets-known-requires : tie.Need-targets-known-requires
 targets-known-requires c κs = search needs

@@ -1,7 +1,7 @@
-use Rattle.lent.specs.Carried.{opens}
+use Rattle.carried.specs.Carried.{opens}
 use borrow.Author.Needs.{needs}
-use Rattle.lent.proofs.carried.is_open.Statement.{statement}
-use Rattle.lent.proofs.carried.is_open.Tie as tie
+use Rattle.carried.proofs.is_open.Statement.{statement}
+use Rattle.carried.proofs.is_open.Tie as tie
 
 enum-told : tie.Need-enum-told
 enum-told c = search needs

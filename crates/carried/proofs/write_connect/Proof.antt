@@ -1,10 +1,10 @@
 use mathlib.Core.Path.{_∙_, sym}
 use denote.Ref.{now}
-use Rattle.lent.proofs.Carries.{connect-written, connect-stays}
-use Rattle.lent.specs.Carried.{framedBy, connectAfter}
+use Rattle.carried.proofs.Carries.{connect-written, connect-stays}
+use Rattle.carried.specs.Carried.{framedBy, connectAfter}
 use borrow.Author.Needs.{needs}
-use Rattle.lent.proofs.carried.write_connect.Statement.{statement}
-use Rattle.lent.proofs.carried.write_connect.Tie as tie
+use Rattle.carried.proofs.write_connect.Statement.{statement}
+use Rattle.carried.proofs.write_connect.Tie as tie
 
 is-open-requires : tie.Need-is-open-requires
 is-open-requires c κs = search needs

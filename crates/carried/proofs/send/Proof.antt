@@ -1,8 +1,8 @@
-use Rattle.lent.specs.Carried.{sentAfter}
+use Rattle.carried.specs.Carried.{sentAfter}
 use mathlib.Core.Path.{sym}
 use borrow.Author.Needs.{needs}
-use Rattle.lent.proofs.carried.send.Statement.{statement}
-use Rattle.lent.proofs.carried.send.Tie as tie
+use Rattle.carried.proofs.send.Statement.{statement}
+use Rattle.carried.proofs.send.Tie as tie
 
 enum-told : tie.Need-enum-told
 enum-told c = search needs

@@ -1,7 +1,7 @@
-use Rattle.lent.specs.Carried.{connectAfter, sentAfter, framedBy, ledgerAfter}
+use Rattle.carried.specs.Carried.{connectAfter, sentAfter, framedBy, ledgerAfter}
 use borrow.Author.Needs.{needs}
-use Rattle.lent.proofs.carried.carry_out.Statement.{statement}
-use Rattle.lent.proofs.carried.carry_out.Tie as tie
+use Rattle.carried.proofs.carry_out.Statement.{statement}
+use Rattle.carried.proofs.carry_out.Tie as tie
 
 send-requires : tie.Need-send-requires
 send-requires c κs = search needs

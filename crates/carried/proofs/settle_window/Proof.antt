@@ -1,9 +1,9 @@
 use denote.Ref.{now}
-use Rattle.lent.proofs.Carries.{window-kept, window-removed, window-opened}
-use Rattle.lent.specs.Carried.{ledgerAfter}
+use Rattle.carried.proofs.Carries.{window-kept, window-removed, window-opened}
+use Rattle.carried.specs.Carried.{ledgerAfter}
 use borrow.Author.Needs.{needs}
-use Rattle.lent.proofs.carried.settle_window.Statement.{statement}
-use Rattle.lent.proofs.carried.settle_window.Tie as tie
+use Rattle.carried.proofs.settle_window.Statement.{statement}
+use Rattle.carried.proofs.settle_window.Tie as tie
 
 enum-told : tie.Need-enum-told
 enum-told c = search needs

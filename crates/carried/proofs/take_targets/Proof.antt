@@ -1,8 +1,8 @@
-use Rattle.lent.specs.Carried.{targetsAfter}
+use Rattle.carried.specs.Carried.{targetsAfter}
 use mathlib.Core.Path.{sym}
 use borrow.Author.Needs.{needs}
-use Rattle.lent.proofs.carried.take_targets.Statement.{statement}
-use Rattle.lent.proofs.carried.take_targets.Tie as tie
+use Rattle.carried.proofs.take_targets.Statement.{statement}
+use Rattle.carried.proofs.take_targets.Tie as tie
 
 enum-told : tie.Need-enum-told
 enum-told c = search needs

@@ -1,6 +1,5 @@
 // A decision carried out on what was lent: the message for the host, the source's ledger window, the CONNECT of a round that opens, and
-// the targets of a window that opens.
-use crate::TargetBytes;
+// the targets of a window that opens (inbound.rs).
 use candidates::Chosen;
 use candidates::Terms;
 use circuit::decision::Decision;
@@ -16,7 +15,10 @@ ghost use lib.ListN.{length};
 ghost use Rattle.frames.specs.Sent.{frameCapacity};
 ghost use Rattle.candidates.specs.Selection.{capacity};
 ghost use Rattle.ledger.specs.Ledger.{tablesOf, laid};
-ghost use Rattle.lent.specs.Carried.{sentAfter, ledgerAfter, opens, connectAfter, framedBy, targetsAfter};
+ghost use Rattle.carried.specs.Carried.{sentAfter, ledgerAfter, opens, connectAfter, framedBy, targetsAfter};
+
+// The bytes of the punch window's targets.
+pub type TargetBytes = [u8; candidates::CAPACITY];
 
 pub fn copy_frame(frame: &FrameBytes, sent: &mut FrameBytes)
     ensures { λ _. ⌜ now (sent .exit) ≡ now (frame .entry) ⌝ }
