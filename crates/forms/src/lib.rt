@@ -2,17 +2,14 @@
 use text::Number;
 ghost use mathlib.Core.Path.{_≡_};
 ghost use mathlib.Core.Bool.{true, false};
-ghost use mathlib.Core.List.{List, _∷_, []};
-ghost use Prim.Native.Nat.{ℕ, _+_, _≤_, min};
-ghost use lib.ListN.{length, take, getD};
-ghost use Rattle.text.specs.Words.{lengthBefore};
+ghost use mathlib.Core.List.{_∷_, []};
+ghost use Prim.Native.Nat.{_+_, _≤_, min};
+ghost use lib.ListN.{take, getD};
 ghost use Rattle.text.specs.Printed.{printed, behind};
 ghost use Rattle.text.specs.Decimal.{decimalOf};
-ghost use Rattle.forms.specs.Forms.{kindOf, isLiteral, choiceLength, behindChoice, literals, split, numberWords, maybeWords, pairWords, bytesWords, whichWord, wordsOf, listed, isGood, isRead, readForm, Stored, Reading};
+ghost use Rattle.forms.specs.Forms.{kindOf, isLiteral, choiceLength, behindChoice, literals, split, numberWords, maybeWords, pairWords, bytesWords, whichWord, wordsOf, listed, isGood, isRead, readForm, Stored};
 ghost use Rattle.text.specs.Hexadecimal.{bytesText};
-ghost use Rattle.forms.specs.Texts.{Value, wordAt, maybeText, pairText, valueText, text, Fits, isForm, width, valueIn, valuesIn, part, valuesOf};
-ghost use Rattle.forms.specs.Tables.{allDiffer, ShareNoLine};
-ghost use Rattle.forms.specs.Room.{roomOf, Kinds, AllAtMost};
+ghost use Rattle.forms.specs.Texts.{Value, wordAt, maybeText, pairText, valueText, text, width, valueIn, valuesIn, part};
 
 // What a byte of a form stands for: itself, or a value.
 pub enum Kind {
@@ -431,21 +428,3 @@ pub fn put_form(form: &[u8], words: &[u64], source: &[u8], out: &mut [u8], at: u
         f = behind_choice(kind, c, form.len());
     }
 }
-
-// ---- what is printed is read, and only that
-
-// For every form: its values are read back from their text, and a line is read as some values only where it is their text.
-pub fn form_round_trip()
-    ensures read { λ r. ⌜ ((form : List ℕ) (vs : List Value) → isForm form ≡ true → Fits form vs → valuesOf form (text form vs) ≡ Reading.Good vs) ⌝ }
-    ensures only { λ r. ⌜ ((form line : List ℕ) (vs : List Value) → valuesOf form line ≡ Reading.Good vs → line ≡ text form vs) ⌝ }
-{}
-
-// Forms that differ at a byte that stands for itself, behind bytes that do so and are the same, share no line.
-pub fn different_forms_share_no_line()
-    ensures { λ r. ⌜ ((forms : List (List ℕ)) → allDiffer forms ≡ true → ShareNoLine forms) ⌝ }
-{}
-
-// The text of a form's values is no longer than its own bytes and those that each value may take.
-pub fn texts_are_short()
-    ensures { λ r. ⌜ ((most : ℕ) (form : List ℕ) (vs : List Value) → Kinds form vs → AllAtMost most vs → length (text form vs) ≤ roomOf most form) ⌝ }
-{}
