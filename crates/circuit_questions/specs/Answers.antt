@@ -8,7 +8,7 @@ use Rattle.text.specs.Decimal.{decimal}
 use Rattle.path.specs.declared.Claim.{Claim}
 use Rattle.vocabulary.specs.declared.Deadline.{Deadline}
 use Rattle.circuit.specs.declared.state.Core.{Core}
-use Rattle.circuit.specs.Questions.{promotesOf, claimOf, nextDeadlineAt}
+use Rattle.questions.specs.Questions.{promotesOf, claimOf, nextDeadlineAt}
 use Rattle.journal_calls.specs.Calls.{Journal, Turned}
 use Rattle.journal_turns.specs.Turns.{lineTurn}
 use Rattle.circuit_questions.specs.declared.Answers.{Answers}

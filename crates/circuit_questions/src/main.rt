@@ -42,9 +42,9 @@ fn ask(begun: bool, c: Core) -> Answers
 {
     if begun {
         let own = c.circuit;
-        let next = c.next_deadline();
-        let promotes = c.promotes(own);
-        let claims = is_claim(c.circuit_claim(own));
+        let next = questions::next_deadline(c);
+        let promotes = questions::promotes(c, own);
+        let claims = is_claim(questions::circuit_claim(c, own));
         return Answers {
             next: next,
             promotes: promotes,

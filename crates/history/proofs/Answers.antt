@@ -23,7 +23,7 @@ use Rattle.vocabulary.specs.declared.Outcome.the-variants.{Accepted, Refused}
 use Rattle.circuit.specs.declared.state.Core.{Core}
 use Rattle.circuit.specs.declared.decision.Decision.{Decision}
 use Rattle.circuit.specs.Decisions.{silence, eventOf, decidedOf, quietOf, refusedOf}
-use Rattle.circuit.specs.Refusals.{checkOf}
+use Rattle.checks.specs.Refusals.{checkOf}
 use Rattle.circuit.specs.Calls.{unless, wroteOf, downOf}
 use Rattle.lent.specs.Calls.{upIn, tickIn, inputIn}
 use Rattle.inbound.specs.Circuits.{answerOf, upAnswer, tickAnswer, inputAnswer, wroteAnswer, downAnswer}

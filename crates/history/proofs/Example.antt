@@ -23,7 +23,7 @@ use Rattle.lent.specs.Brought.{broughtBy}
 use Rattle.circuit.specs.State.{inPhase, exchangingOf, punchingOf}
 use Rattle.rounds.specs.Rounds.{isLive, openRound}
 use Rattle.upgrade.specs.Ticks.{tickPunching}
-use Rattle.circuit.specs.Refusals.{inUse, checkOf}
+use Rattle.checks.specs.Refusals.{inUse, checkOf}
 use Rattle.upgrade.specs.Ups.{announced, connectedOf, upAt}
 use Rattle.inputs.specs.Inputs.{closing, inExchange, writeOf, firstInput, roundTrip, windowOf, openWindow, exchangeInput}
 use Rattle.lent.specs.Replies.{targetsFrom, peekedOf}

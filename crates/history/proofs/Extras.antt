@@ -36,7 +36,7 @@ use Rattle.carried.specs.Carried.{targetsAfter}
 use Rattle.carried.specs.Carried as carried
 use Rattle.inbound.specs.Circuits.{answerOf, plainly, upAnswer, tickAnswer, inputAnswer, wroteAnswer, downAnswer}
 use Rattle.lent.specs.Brought.{Brought, unfinished, failed, connect}
-use Rattle.circuit.specs.Refusals.{checkOf}
+use Rattle.checks.specs.Refusals.{checkOf}
 use Rattle.upgrade.specs.Ups.{establishedAt, connectedOf, tookOf, taking, upAt}
 use Rattle.inputs.specs.Inputs.{inputAt}
 use Rattle.upgrade.specs.Ticks.{tickAt}

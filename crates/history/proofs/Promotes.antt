@@ -51,11 +51,11 @@ use Rattle.rounds.specs.Rounds.{isLive, noRound, openStream, openRound, failRou
 use Rattle.upgrade.specs.Ticks.{tickHandshaking, stopped, tickExchange, dueBurst, tickPunching, tickAt}
 use Rattle.upgrade.specs.Ups.{upgradedOf, announced, establishedAt, connectedOf, upAt}
 use Rattle.inputs.specs.Inputs.{closing, inExchange, firstInput, openWindow, replied, laterInput, timelyInput, inTime, exchangeInput, inputAt}
-use Rattle.circuit.specs.Refusals.{checkOf}
+use Rattle.checks.specs.Refusals.{checkOf}
 use Rattle.circuit.specs.Calls.{begunOf, startedOf, unless, wroteTo, wroteAt, wroteOf, downOf}
 use Rattle.lent.specs.Calls.{upIn, tickIn, hearing, inputIn}
 use Rattle.inbound.specs.Circuits.{answerOf, newAnswer, wroteAnswer, downAnswer}
-use Rattle.circuit.specs.Questions.{promoted}
+use Rattle.questions.specs.Questions.{promoted}
 use Rattle.history.specs.Calls.{Call, up, input, tick, wrote, down, isRefused, stepOf}
 use Rattle.history.specs.Book.{Stage, Book}
 use Rattle.history.specs.Refuses.{refusal, turned, next}

@@ -24,7 +24,7 @@ use Rattle.circuit.specs.declared.state.Core.{Core}
 use Rattle.circuit.specs.declared.state.Phase.{Phase}
 use Rattle.vocabulary.specs.declared.Deadline.the-variants.{At}
 use Rattle.circuit.specs.State.{isDone}
-use Rattle.circuit.specs.Questions.{nextDeadlineAt, claimOf, promoted, promotesOf}
+use Rattle.questions.specs.Questions.{nextDeadlineAt, claimOf, promoted, promotesOf}
 use Rattle.history.specs.Calls.{Call, stepOf}
 use Rattle.history.specs.Book.{Window, Stage, Book, fresh}
 use Rattle.history.specs.Demand3.{begun}

@@ -27,7 +27,7 @@ use Rattle.circuit.specs.declared.decision.Decision.{Decision}
 use Rattle.vocabulary.specs.declared.Offer.{Offer}
 use Rattle.vocabulary.specs.declared.Outcome.the-variants.{Accepted, Refused}
 use Rattle.circuit.specs.Decisions.{decidedOf, quietOf, refusedOf}
-use Rattle.circuit.specs.Refusals.{inUse, checkOf}
+use Rattle.checks.specs.Refusals.{inUse, checkOf}
 use Rattle.circuit.specs.Calls.{unless, begunOf, startedOf, wroteOf, downOf}
 use Rattle.lent.specs.Calls.{upIn, tickIn, inputIn}
 use Rattle.inbound.specs.Circuits.{answerOf, newAnswer, wroteAnswer, downAnswer}

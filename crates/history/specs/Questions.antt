@@ -19,7 +19,7 @@ use Rattle.vocabulary.specs.declared.Settings.{Settings}
 use Rattle.inbound.specs.declared.InboundCircuit.{InboundCircuit}
 use Rattle.vocabulary.specs.declared.Deadline.{Deadline}
 use Rattle.vocabulary.specs.declared.Deadline.the-variants.{At, None}
-use Rattle.circuit.specs.Questions.{nextDeadlineAt, claimOf, promotesOf}
+use Rattle.questions.specs.Questions.{nextDeadlineAt, claimOf, promotesOf}
 use Rattle.history.specs.Calls.{Call, up, input, tick, wrote, down, stepOf}
 use Rattle.history.specs.Book.{Window, Stage, handshaking, asking, within, over, Book, Who, fresh}
 use Rattle.history.specs.Refuses.{refusal, turned, next, nextAll}

@@ -23,7 +23,7 @@ ghost use mathlib.Core.Path.{_≡_};
 ghost use Rattle.ledger.specs.Ledger.{tablesOf, laid};
 ghost use Rattle.circuit.specs.State.{isDone};
 ghost use Rattle.inbound.specs.Circuits.{madeOf, newAnswer, upAnswer, tickAnswer, inputAnswer, inputBuffer, wroteAnswer, downAnswer, ledgerBehind};
-ghost use Rattle.circuit.specs.Questions.{promotesOf, claimOf, nextDeadlineAt};
+ghost use Rattle.questions.specs.Questions.{promotesOf, claimOf, nextDeadlineAt};
 
 pub struct InboundCircuit {
     pub core: Core,
@@ -206,27 +206,27 @@ impl InboundCircuit {
         ensures { λ r. ⌜ r ≡ isDone (self .core .phase) ⌝ }
     {
         let core = self.core;
-        core.is_done()
+        questions::is_done(core)
     }
 
     pub fn promotes(self, conn: ConnectionId) -> bool
         ensures { λ r. ⌜ r ≡ promotesOf (self .core) conn ⌝ }
     {
         let core = self.core;
-        core.promotes(conn)
+        questions::promotes(core, conn)
     }
 
     pub fn circuit_claim(self, conn: ConnectionId) -> Claim
         ensures { λ r. ⌜ r ≡ claimOf (self .core) conn ⌝ }
     {
         let core = self.core;
-        core.circuit_claim(conn)
+        questions::circuit_claim(core, conn)
     }
 
     pub fn next_deadline(self) -> Deadline
         ensures { λ r. ⌜ r ≡ nextDeadlineAt (self .core) (self .core .phase) ⌝ }
     {
         let core = self.core;
-        core.next_deadline()
+        questions::next_deadline(core)
     }
 }

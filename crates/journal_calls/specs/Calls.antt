@@ -31,7 +31,7 @@ use Rattle.circuit.specs.Calls.{startedOf, wroteOf, downOf}
 use Rattle.lent.specs.Calls.{upOf, tickOf, peeked, bufferAfter}
 use Rattle.carried.specs.Carried.{noFrame, noAims}
 use Rattle.inbound.specs.Circuits.{decidedAt}
-use Rattle.circuit.specs.Questions.{claimOf}
+use Rattle.questions.specs.Questions.{claimOf}
 use Rattle.journal_effects.specs.declared.Effects.{Effects}
 use Rattle.journal_calls.specs.declared.State.{State}
 use Rattle.journal_calls.specs.declared.Said.{Said}

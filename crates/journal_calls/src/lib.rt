@@ -312,7 +312,7 @@ fn claim_for(c: Core, conn: ConnectionId, circuit: bool) -> Claim
     ensures { λ r. ⌜ r ≡ claimFor c conn circuit ⌝ }
 {
     if circuit {
-        return c.circuit_claim(conn);
+        return questions::circuit_claim(c, conn);
     }
     Claim::None
 }

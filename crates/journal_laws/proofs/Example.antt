@@ -26,7 +26,7 @@ use Rattle.candidates.specs.Selection.{selected, bounded, room, once, own}
 use Rattle.ledger.specs.Ledger.{emptyLedger, refusesPunches}
 use Rattle.circuit.specs.State.{inPhase, exchangingOf, punchingOf}
 use Rattle.circuit.specs.Decisions.{eventOf, silence, resetOf, burstOf, sendingOf, decidedOf, quietOf}
-use Rattle.circuit.specs.Refusals.{inUse, checkOf}
+use Rattle.checks.specs.Refusals.{inUse, checkOf}
 use Rattle.rounds.specs.Rounds.{isLive, openRound}
 use Rattle.upgrade.specs.Ticks.{tickPunching}
 use Rattle.upgrade.specs.Ups.{announced, connectedOf, upAt}

@@ -25,7 +25,7 @@ use Rattle.inputs.specs.declared.Heard.the-variants as heard
 use Rattle.lent.specs.declared.reply.Peeked.{Peeked}
 use Rattle.circuit.specs.State.{termsOf}
 use Rattle.circuit.specs.Decisions.{refusedOf}
-use Rattle.circuit.specs.Refusals.{checkOf}
+use Rattle.checks.specs.Refusals.{checkOf}
 use Rattle.inputs.specs.Inputs.{inputAt, awaits, frameBytes}
 use Rattle.lent.specs.Brought.{broughtBy}
 use Rattle.lent.specs.Replies.{peekedOf}

@@ -45,7 +45,7 @@ use Rattle.inputs.specs.declared.Heard.the-variants as heard
 use Rattle.circuit.specs.Decisions.{silence, eventOf, resetOf, sendingOf, decidedOf, quietOf, refusedOf}
 use Rattle.candidates.specs.declared.Terms.{Terms}
 use Rattle.circuit.specs.State.{termsOf, inPhase, doneOf}
-use Rattle.circuit.specs.Refusals.{checkOf}
+use Rattle.checks.specs.Refusals.{checkOf}
 use Rattle.rounds.specs.Rounds.{isLive, noRound, openStream, openRound, failRound}
 use Rattle.upgrade.specs.Ticks.{tickHandshaking, resetAtEnd, stopped, tickExchange, dueBurst, tickPunching, tickAt}
 use Rattle.upgrade.specs.Ups.{upgradedOf, pathSaid, announced, establishedAt, connectedOf, upAt}

@@ -21,7 +21,7 @@ use Rattle.circuit.specs.Calls.{unless}
 use Rattle.lent.specs.declared.reply.Peeked.{Peeked}
 use Rattle.circuit.specs.State.{termsOf}
 use Rattle.circuit.specs.Decisions.{refusedOf}
-use Rattle.circuit.specs.Refusals.{checkOf}
+use Rattle.checks.specs.Refusals.{checkOf}
 use Rattle.upgrade.specs.Ticks.{tickAt}
 use Rattle.upgrade.specs.Ups.{upAt}
 use Rattle.inputs.specs.Inputs.{inputAt, awaits, frameBytes}

@@ -5,7 +5,6 @@ use crate::reply;
 use candidates::Chosen;
 use circuit::decision;
 use circuit::decision::Decision;
-use circuit::refusals;
 use circuit::state;
 use circuit::state::Core;
 use frames::FrameBytes;
@@ -102,7 +101,7 @@ fn input_in(
     }
     let phase = c.phase;
     let offer = host.offer;
-    let check = refusals::checked(phase, offer, own);
+    let check = checks::checked(phase, offer, own);
     match check {
         Outcome::Refused(why) => {
             return decision::refused(c, why);
@@ -140,7 +139,7 @@ fn up_in(
 {
     let phase = c.phase;
     let offer = host.offer;
-    let check = refusals::checked(phase, offer, own);
+    let check = checks::checked(phase, offer, own);
     match check {
         Outcome::Refused(why) => {
             return decision::refused(c, why);
@@ -156,7 +155,7 @@ fn tick_in(c: Core, host: Host, own: &[u8]) -> Decision
 {
     let phase = c.phase;
     let offer = host.offer;
-    let check = refusals::checked(phase, offer, own);
+    let check = checks::checked(phase, offer, own);
     match check {
         Outcome::Refused(why) => {
             return decision::refused(c, why);

@@ -51,7 +51,7 @@ use Rattle.circuit.specs.Calls.{begunOf, startedOf, wroteOf, downOf}
 use Rattle.lent.specs.Calls.{upOf, tickOf}
 use Rattle.carried.specs.Carried.{noFrame, noAims}
 use Rattle.inbound.specs.Circuits.{answerOf, newAnswer, upAnswer, tickAnswer, decidedAt, inputAnswer, inputBuffer, wroteAnswer, downAnswer}
-use Rattle.circuit.specs.Questions.{claimOf}
+use Rattle.questions.specs.Questions.{claimOf}
 use Rattle.history.specs.Calls.{Call, up, input, tick, wrote, down, isRefused, stepOf}
 use Rattle.history.specs.Book.{Stage, Who, fresh, note}
 use Rattle.history.specs.Demand3.{begun}

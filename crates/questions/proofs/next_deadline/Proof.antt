@@ -1,8 +1,8 @@
 use borrow.Author.Tests.{eq-eqb, ne-eqb}
 use mathlib.Core.Path.{sym}
 use borrow.Author.Needs.{needs}
-use Rattle.circuit.proofs.state.Core.next_deadline.Statement.{statement}
-use Rattle.circuit.proofs.state.Core.next_deadline.Tie as tie
+use Rattle.questions.proofs.next_deadline.Statement.{statement}
+use Rattle.questions.proofs.next_deadline.Tie as tie
 
 enum-known-phase : tie.Need-enum-known-phase
 enum-known-phase c = search needs

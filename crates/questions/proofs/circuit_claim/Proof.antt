@@ -1,9 +1,9 @@
-use Rattle.circuit.specs.Questions.{claimOf}
+use Rattle.questions.specs.Questions.{claimOf}
 use borrow.Author.Tests.{eq-eqb, ne-eqb}
 use mathlib.Core.Path.{sym}
 use borrow.Author.Needs.{needs}
-use Rattle.circuit.proofs.state.Core.circuit_claim.Statement.{statement}
-use Rattle.circuit.proofs.state.Core.circuit_claim.Tie as tie
+use Rattle.questions.proofs.circuit_claim.Statement.{statement}
+use Rattle.questions.proofs.circuit_claim.Tie as tie
 
 returns : tie.Need-returns
 unfolding claimOf

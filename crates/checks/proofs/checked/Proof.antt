@@ -1,8 +1,8 @@
-use Rattle.circuit.specs.Refusals.{checkOf}
+use Rattle.checks.specs.Refusals.{checkOf}
 use mathlib.Core.Path.{sym}
 use borrow.Author.Needs.{needs}
-use Rattle.circuit.proofs.refusals.checked.Statement.{statement}
-use Rattle.circuit.proofs.refusals.checked.Tie as tie
+use Rattle.checks.proofs.checked.Statement.{statement}
+use Rattle.checks.proofs.checked.Tie as tie
 
 is-broken-requires : tie.Need-is-broken-requires
 is-broken-requires c κs = search needs

@@ -1,10 +1,10 @@
 // What up, tick and input are refused with before they do anything.
-use crate::state::Phase;
+use circuit::state::Phase;
 use refusal::Refusal;
 use vocabulary::Offer;
 use vocabulary::Outcome;
 ghost use mathlib.Core.Path.{_≡_};
-ghost use Rattle.circuit.specs.Refusals.{inUse, checkOf};
+ghost use Rattle.checks.specs.Refusals.{inUse, checkOf};
 
 // Whether the offered stream is the one that an exchange runs on.
 fn offer_in_use(phase: Phase, offer: Offer) -> bool

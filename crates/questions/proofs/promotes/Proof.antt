@@ -1,9 +1,9 @@
-use Rattle.circuit.specs.Questions.{promotesOf}
+use Rattle.questions.specs.Questions.{promotesOf}
 use borrow.Author.Tests.{eq-eqb, ne-eqb}
 use mathlib.Core.Path.{sym}
 use borrow.Author.Needs.{needs}
-use Rattle.circuit.proofs.state.Core.promotes.Statement.{statement}
-use Rattle.circuit.proofs.state.Core.promotes.Tie as tie
+use Rattle.questions.proofs.promotes.Statement.{statement}
+use Rattle.questions.proofs.promotes.Tie as tie
 
 returns : tie.Need-returns
 unfolding promotesOf

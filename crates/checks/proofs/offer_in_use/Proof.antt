@@ -1,10 +1,10 @@
 -- `inbound::refusals::offer_in_use` meets its contract: each answer by the tests on the way and by what the callees ensure.
 -- Assumes nothing.
-use Rattle.circuit.specs.Refusals.{inUse}
+use Rattle.checks.specs.Refusals.{inUse}
 use borrow.Author.Tests.{eq-eqb, ne-eqb}
 use borrow.Author.Needs.{needs}
-use Rattle.circuit.proofs.refusals.offer_in_use.Statement.{statement}
-use Rattle.circuit.proofs.refusals.offer_in_use.Tie as tie
+use Rattle.checks.proofs.offer_in_use.Statement.{statement}
+use Rattle.checks.proofs.offer_in_use.Tie as tie
 
 enum-known-phase : tie.Need-enum-known-phase
 enum-known-phase c = search needs
