@@ -211,19 +211,20 @@ class Schedule:
 # Paths
 
 
-def live(text):
-    return [] if text == '-' else [tuple(map(int, record.split(':'))) for record in text.split(',')]
+def live(data):
+    """Records of two numbers of eight bytes; what is behind the last whole one plays no part."""
+    numbers = [int.from_bytes(data[at:at + 8], 'big') for at in range(0, len(data) - len(data) % 16, 8)]
+    return zip(numbers[::2], numbers[1::2])
 
 
 class Paths:
-    owner = f'inbound|none|{NUMBER}'
+    path, owner = 'path=relayed|punched|direct relay=N', 'owner=none|inbound|attempt id=N'
     forms = [
-        'do=empty', 'do=dial conn=N token=N purpose=relay id=N relay=N', 'do=dial conn=N token=N purpose=punch id=N',
-        'do=dial conn=N token=N purpose=probe|reserve peer=N', 'do=finish conn=N',
-        f'do=abort id=N target=N live=-|{NUMBER}:{NUMBER}(?:,{NUMBER}:{NUMBER})*', 'do=expect peer=N until=N', 'do=end peer=N',
-        f'do=attribute at=N peer=N conn=N via=circuit|direct claim=none|circuit:{NUMBER}:inbound|circuit:{NUMBER}:{NUMBER}|direct:{NUMBER}',
-        f'do=replaced path=relayed:{NUMBER}|punched|direct owner={owner} new=N', 'do=forget conn=N', 'do=punched conn=N',
-        'do=tick at=N', 'do=next', 'do=quiet', 'do=show']
+        'do=empty', 'do=dial conn=N token=N purpose=relay|punch|probe|reserve of=N relay=N', 'do=finish conn=N',
+        'do=expect peer=N until=N', 'do=close peer=N',
+        'do=attribute at=N peer=N conn=N via=direct|circuit claim=none|direct|inbound|attempt relay=N id=N', 'do=forget conn=N',
+        'do=expire at=N', 'do=abort live=HEX id=N target=N', f'do=replaced {path} {owner} new=N', 'do=punched conn=N', 'do=next',
+        'do=quiet', 'do=row table=dials|windows|paths place=N']
 
     def __init__(self):
         self.empty(None)
@@ -240,14 +241,17 @@ class Paths:
         return True
 
     def dial(self, call):
-        purpose = {key: call[key] for key in ('purpose', 'id', 'relay', 'peer') if key in call}
-        return 'ok' if self.put(self.dials, call['conn'], (call['token'], purpose)) else 'refused why=4'
+        relay = call['relay'] if call['purpose'] == 'relay' else 0
+        row = call['token'], call['purpose'], call['of'], relay
+        return 'ok' if self.put(self.dials, call['conn'], row) else 'refused why=4'
+
+    @staticmethod
+    def started(row):
+        return 'token={} purpose={} of={} relay={}'.format(*row)
 
     def finish(self, call):
-        if call['conn'] not in self.dials:
-            return 'none'
-        token, purpose = self.dials.pop(call['conn'])
-        return f'token={token} ' + ' '.join(f'{key}={value}' for key, value in purpose.items())
+        row = self.dials.pop(call['conn'], None)
+        return self.started(row) if row else 'none'
 
     def abort(self, call):
         first = {}
@@ -255,62 +259,62 @@ class Paths:
             first.setdefault(peer, conn)
         retired, close = [], []
         for conn in sorted(self.dials):
-            token, purpose = self.dials[conn]
-            if purpose.get('id') != call['id']:
+            token, purpose, of, relay = self.dials[conn]
+            if purpose not in ('relay', 'punch') or of != call['id']:
                 continue
             retired.append(token)
-            peer = purpose['relay'] if purpose['purpose'] == 'relay' else call['target']
+            peer = relay if purpose == 'relay' else call['target']
             if first.get(peer) != conn:
                 close.append(conn)
-            if first.get(peer) != conn or purpose['purpose'] == 'relay':
+            if first.get(peer) != conn or purpose == 'relay':
                 del self.dials[conn]
-        return f'retired={joined(retired)} close={joined(close)}'
+        return f'retired={octets(retired)} close={octets(close)}'
 
     def expect(self, call):
         until = max(call['until'], self.windows.get(call['peer'], 0))
         return 'ok' if self.put(self.windows, call['peer'], until) else 'refused why=4'
 
-    def end(self, call):
+    def close(self, call):
         self.windows.pop(call['peer'], None)
         return 'ok'
 
     def attribute(self, call):
-        claim = call['claim'].split(':')
-        _, purpose = self.dials.get(call['conn'], (None, {}))
+        claim = call['claim']
+        _, purpose, of, _ = self.dials.get(call['conn'], (0, '', 0, 0))
         if call['via'] == 'circuit':
-            if claim[0] != 'circuit':
+            if claim not in ('inbound', 'attempt'):
                 return 'path=none'
-            row = f'relayed:{claim[1]}', claim[2]
-        elif purpose.get('purpose') == 'punch':
-            row = 'punched', str(purpose['id'])
-        elif claim[0] == 'direct':
-            row = 'direct', claim[1]
+            row = 'relayed', call['relay'], claim, call['id'] if claim == 'attempt' else 0
+        elif purpose == 'punch':
+            row = 'punched', 0, 'attempt', of
+        elif claim == 'direct':
+            row = 'direct', 0, 'attempt', call['id']
         elif call['at'] < self.windows.get(call['peer'], 0):
-            row = 'punched', 'inbound'
+            row = 'punched', 0, 'inbound', 0
         else:
-            row = 'direct', 'none'
-        return self.row(row) if self.put(self.paths, call['conn'], row) else 'refused why=4'
+            row = 'direct', 0, 'none', 0
+        return self.name(row) if self.put(self.paths, call['conn'], row) else 'refused why=4'
 
     @staticmethod
-    def row(row):
-        path, owner = row
-        return f"path={path.replace(':', ' relay=')} owner={owner}"
+    def name(row):
+        return 'path={} relay={} owner={} id={}'.format(*row)
 
     def replaced(self, call):
         new = self.paths.get(call['new'])
-        if new is None or not call['path'].startswith('relayed') or call['owner'] == 'none' or new[0].startswith('relayed'):
+        if new is None or call['path'] != 'relayed' or call['owner'] == 'none' or new[0] == 'relayed':
             return 'none'
-        return f"upgrade owner={call['owner']} from={call['path']} to={new[0]}"
+        of = call['id'] if call['owner'] == 'attempt' else 0
+        return f"owner={call['owner']} id={of} from=relayed relay={call['relay']} to={new[0]} by=0"
 
     def forget(self, call):
         self.dials.pop(call['conn'], None)
         row = self.paths.pop(call['conn'], None)
-        return self.row(row) if row else 'none'
+        return self.name(row) if row else 'none'
 
     def punched(self, call):
-        return 'yes' if self.paths.get(call['conn'], ('', ''))[0] == 'punched' else 'no'
+        return 'yes' if self.paths.get(call['conn'], ('',))[0] == 'punched' else 'no'
 
-    def tick(self, call):
+    def expire(self, call):
         self.windows = {peer: until for peer, until in self.windows.items() if until > call['at']}
         return 'ok'
 
@@ -320,23 +324,25 @@ class Paths:
     def quiet(self, call):
         return 'no' if self.windows else 'yes'
 
-    def show(self, call):
-        dials = [f'{conn}:{token}:' + ':'.join(str(part) for part in purpose.values())
-                 for conn, (token, purpose) in sorted(self.dials.items())]
-        windows = [f'{peer}:{until}' for peer, until in sorted(self.windows.items())]
-        paths = [f'{conn}:{path}:{owner}' for conn, (path, owner) in sorted(self.paths.items())]
-        return f'dials={joined(dials)} windows={joined(windows)} paths={joined(paths)}'
+    def row(self, call):
+        rows = sorted(getattr(self, call['table']).items())
+        if call['place'] >= len(rows):
+            return 'none'
+        key, row = rows[call['place']]
+        if call['table'] == 'windows':
+            return f'peer={key} until={row}'
+        return f'conn={key} ' + (self.started(row) if call['table'] == 'dials' else self.name(row))
 
 
-def joined(items):
-    return ','.join(str(item) for item in items) or '-'
+def octets(numbers):
+    return hexed(b''.join(number.to_bytes(8, 'big') for number in numbers))
 
 
 # Lines
 
 MODES = {'message': Messages, 'candidate': Candidates, 'budget': Budget, 'schedule': Schedule, 'ledger': Paths}
-BYTES = ('in', 'list', 'address')
-WORDS = ('do', 'kind', 'purpose', 'via')
+BYTES = ('in', 'list', 'address', 'live')
+WORDS = ('do', 'kind', 'purpose', 'via', 'claim', 'path', 'owner', 'table')
 
 
 def values(match):
@@ -347,10 +353,6 @@ def values(match):
         if key in BYTES:
             out[key] = b'' if text == '-' else bytes.fromhex(text)
         elif key in WORDS:
-            out[key] = text
-        elif key in ('live', 'claim', 'path', 'owner'):
-            if any(int(number) > TOP for number in re.findall('[0-9]+', text)):
-                return None
             out[key] = text
         else:
             out[key] = int(text)

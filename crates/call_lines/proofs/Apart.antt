@@ -10,10 +10,11 @@ use Rattle.library_calls.specs.Messages.{messagesTable}
 use Rattle.library_calls.specs.Choices.{choicesTable}
 use Rattle.library_calls.specs.Budgets.{budgetsTable}
 use Rattle.library_calls.specs.Schedules.{schedulesTable}
+use Rattle.ledger_calls.specs.Calls.{ledgerTable}
 use Rattle.call_lines.specs.Shared.{formsFrom, rowForms}
 
 all-differ : allDiffer rowForms ≡ true
-unfolding allDiffer differsFrom differ kindOf rowForms formsFrom messagesTable choicesTable budgetsTable schedulesTable partFrom lengthBefore
+unfolding allDiffer differsFrom differ kindOf rowForms formsFrom messagesTable choicesTable budgetsTable schedulesTable ledgerTable partFrom lengthBefore
 all-differ = refl
 
 pub no-shared-line : ShareNoLine rowForms

@@ -1,14 +1,14 @@
 -- What is made of a line is what the definitions say. Assumes nothing.
 use mathlib.Core.Path.{_≡_, refl}
-use mathlib.Core.List.{List}
+use mathlib.Core.List.{List, []}
 use mathlib.Core.Bool.{Bool, true, false}
 use Prim.Native.Nat.{ℕ}
 use lib.ListN.{length}
 use Rattle.text.specs.Words.{ascii}
 use Rattle.text.specs.Printed.{printed, behind}
 use Rattle.text.proofs.Printing.{Laid, parts}
-use Rattle.ledger.specs.Ledger.{tablesOf}
-use Rattle.ledger_calls.specs.Replies.{replyText, wordsBy}
+use Rattle.call_table.specs.Tables.{callOf, answerText}
+use Rattle.ledger_calls.specs.Calls.{ledgerTable, turnBy, textBy, ledgerTurn, ledgerText}
 use Rattle.call_lines.specs.Turns.{Turn, turn, turnOf, isWhole, lineTurn}
 use Rattle.library_calls.specs.declared.Kept.{Kept}
 use Rattle.library_calls.specs.Lines as library
@@ -23,9 +23,20 @@ module _ (k : Kept) (ws line : List ℕ) {f : Bool} (e : f ≡ library.turnOf k 
   unfolding turnOf
   by-library t g = rw (← e, t, g)
 
-  pub by-ledger : {w : List ℕ} → f ≡ false → w ≡ wordsBy ws line → turn k w (replyText (tablesOf ws) line) ≡ turnOf k ws line
+  pub by-ledger : {w : List ℕ} {b : Bool} → f ≡ false → b ≡ callOf ledgerTable line .found → b ≡ true → w ≡ ledgerTurn ws line .words
+      → turn k w (ledgerText ws line) ≡ turnOf k ws line
   unfolding turnOf
-  by-ledger t g = rw (← e, t, g)
+  by-ledger t h u g = rw (← e, t, ← h, u, g)
+
+  pub by-none : {w : List ℕ} {b : Bool} → f ≡ false → b ≡ callOf ledgerTable line .found → b ≡ false → w ≡ ledgerTurn ws line .words
+      → turn k w (ascii "bad\n") ≡ turnOf k ws line
+  unfolding turnOf turnBy
+  by-none t h u g = rw (← e, t, g, ← h, u)
+
+-- a line that is no call of the ledger prints nothing there
+pub unsaid : (ws line : List ℕ) {b : Bool} → b ≡ callOf ledgerTable line .found → b ≡ false → ledgerText ws line ≡ []
+unfolding textBy answerText
+unsaid ws line h u = rw (← h, u)
 
 module _ (k : Kept) (ws line : List ℕ) where
   module _ (ended : Bool) {b : Bool} (e : b ≡ isWhole (length line) ended) where

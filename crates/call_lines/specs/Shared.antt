@@ -6,6 +6,7 @@ use Rattle.library_calls.specs.Messages.{messagesTable}
 use Rattle.library_calls.specs.Choices.{choicesTable}
 use Rattle.library_calls.specs.Budgets.{budgetsTable}
 use Rattle.library_calls.specs.Schedules.{schedulesTable}
+use Rattle.ledger_calls.specs.Calls.{ledgerTable}
 
 -- those of so many rows from one on
 unfoldable pub formsFrom : List ℕ → ℕ → ℕ → List (List ℕ)
@@ -13,4 +14,9 @@ formsFrom table k zero = []
 formsFrom table k (suc n) = fieldOf (rowText table k) 0 ∷ formsFrom table (suc k) n
 
 unfoldable pub rowForms : List (List ℕ)
-rowForms = formsFrom messagesTable 0 7 ++ formsFrom choicesTable 0 6 ++ formsFrom budgetsTable 0 5 ++ formsFrom schedulesTable 0 2
+rowForms =
+    formsFrom messagesTable 0 7
+    ++ formsFrom choicesTable 0 6
+    ++ formsFrom budgetsTable 0 5
+    ++ formsFrom schedulesTable 0 2
+    ++ formsFrom ledgerTable 0 14

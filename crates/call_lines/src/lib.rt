@@ -13,7 +13,7 @@ pub struct Answered {
     pub end: usize,
 }
 
-// A line without its line feed, by the first table that has its form; the ledger's is the last.
+// A line without its line feed, by the first table that has its form; the ledger's is the last. One that has none is bad.
 fn answer(kept: Kept, ledger: &mut Ledger, line: &[u8], out: &mut [u8]) -> Answered
     ensures kept { λ r. ⌜ r .kept ≡ turnOf kept (now (ledger .entry)) (now (line .entry)) .kept ⌝ }
     ensures words { λ r. ⌜ now (ledger .exit) ≡ turnOf kept (now (ledger .entry)) (now (line .entry)) .words ⌝ }
@@ -28,7 +28,14 @@ fn answer(kept: Kept, ledger: &mut Ledger, line: &[u8], out: &mut [u8]) -> Answe
             end: a.end,
         };
     }
-    let end = ledger_calls::answer(ledger, line, out);
+    let b = ledger_calls::answer(ledger, line, out);
+    if b.found {
+        return Answered {
+            kept: kept,
+            end: b.end,
+        };
+    }
+    let end = text::put_text(b"bad\n", out, 0);
     Answered {
         kept: kept,
         end: end,

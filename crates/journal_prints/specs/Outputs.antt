@@ -2,7 +2,6 @@
 use Prim.Native.Nat.{ℕ}
 use mathlib.Core.List.{List, [], _∷_, _++_}
 use Rattle.text.specs.Words.{ascii}
-use Rattle.text.specs.Decimal.{decimal}
 use Rattle.text.specs.Hexadecimal.{hexadecimal}
 use Rattle.forms.specs.Texts.{Value, number, bytes, word, text}
 use Rattle.wire.specs.Lists.{entries}
@@ -72,11 +71,6 @@ abbrev pub ownedText : ℕ → ℕ → Owner → List ℕ
 ownedText n place (owner.Attempt id) = lineText ownedForm (number n ∷ word place ∷ number (id .0) ∷ [])
 ownedText n place owner.Inbound = lineText namedForm (number n ∷ word place ∷ word 0 ∷ [])
 ownedText n place owner.None = lineText namedForm (number n ∷ word place ∷ word 1 ∷ [])
-
-abbrev pub ownerWord : Owner → List ℕ
-ownerWord (owner.Attempt id) = decimal (id .0)
-ownerWord owner.Inbound = ascii "inbound"
-ownerWord owner.None = ascii "none"
 
 abbrev pub attributionText : ℕ → Attribution → List ℕ
 attributionText n a = ownedText n (pathPlace (a .path)) (a .owner)

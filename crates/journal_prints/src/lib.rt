@@ -17,7 +17,7 @@ ghost use Rattle.wire.specs.Lists.{entries};
 ghost use Rattle.text.specs.Printed.{printed, behind};
 ghost use Rattle.forms.specs.Texts.{number, word};
 ghost use Rattle.journal_prints.specs.Forms.{ownedForm, namedForm};
-ghost use Rattle.journal_prints.specs.Outputs.{withCommas, targetsText, pathPlace, ownedText, ownerWord, lineText, noneText, pathText, openText, sendText, resetText, burstText, closeText, upgradeText, attributionText, attributedText, refusedText};
+ghost use Rattle.journal_prints.specs.Outputs.{withCommas, targetsText, pathPlace, ownedText, lineText, noneText, pathText, openText, sendText, resetText, burstText, closeText, upgradeText, attributionText, attributedText, refusedText};
 ghost use Rattle.journal_prints.specs.Room.{room, Output, Whole};
 
 pub fn put_none(n: u64, out: &mut [u8], at: usize) -> usize
@@ -169,17 +169,6 @@ pub fn put_upgrade(
     let words = [n, peer.0, old.0, new.0];
     let p = forms::put_form(b"n=# out=upgrade peer=# old=# new=#", &words, b"", out, at);
     text::put_byte(b'\n', out, p)
-}
-
-pub fn put_owner_word(owner: Owner, out: &mut [u8], at: usize) -> usize
-    ensures bytes { λ r. ⌜ now (out .exit) ≡ printed (now (out .entry)) at (ownerWord owner) ⌝ }
-    ensures place { λ r. ⌜ r ≡ behind (now (out .entry)) at (ownerWord owner) ⌝ }
-{
-    match owner {
-        Owner::Attempt(id) => text::put_decimal(id.0, out, at),
-        Owner::Inbound => text::put_text(b"inbound", out, at),
-        Owner::None => text::put_text(b"none", out, at),
-    }
 }
 
 // The place of a path's word.

@@ -1,1 +1,3 @@
-pub mod Replying
+pub mod Numbers
+pub mod Turning
+pub mod Back

@@ -1,1 +1,3 @@
-pub mod Replies
+pub mod Values
+pub mod Records
+pub mod Calls

@@ -84,13 +84,13 @@ Firsts-typed : {M : Type 1} (𝓤 : URA M) (H : Heap 𝓤) (A : Atoms 𝓤) (W :
 Firsts-typed 𝓤 H A W r u is = LL.lawful Firsts·.the-type Firsts·L.the-laws 𝓤 H A W .typed r (u ∷ []) is .0
 
 abbrev Rows : RattleType
-Rows = Array Live·.the-row 8192
+Rows = Array Live·.the-row 1024
 
 abbrev stayed : Stays (this.ended .signature .params) (this.ended .kept)
 stayed = (stay-none (λ _. Asked·.the-row) yes, (stay-none (λ _. Rows) yes, (stay-none (λ _. usize) yes, tt)))
 
 abbrev rows-ty : Ty
-rows-ty = tyArray Live·L.mir 8192
+rows-ty = tyArray Live·L.mir 1024
 
 abbrev vals : List Live → List Val
 vals = array-vals (LL.vals Live·.the-type Live·L.the-laws)
@@ -99,10 +99,10 @@ abbrev Finding : {M : Type 1} (𝓤 : URA M) (H : Heap 𝓤) (A : Atoms 𝓤) (m
 Finding 𝓤 H A mem run = tripleOf 𝓤 H A first-lives.signature (first-lives.spec 𝓤 H A mem run)
 
 -- as many records as there are places have room
-upto-room : (n : ℕ) → n ≤ 8192 → Room Live·.the-row n
+upto-room : (n : ℕ) → n ≤ 1024 → Room Live·.the-row n
 upto-room n l = (omega (arith, l), omega (arith, l))
 
-taken : (n : ℕ) (r : List Live) → n ≤ 8192 → length r ≡ 8192 → length (take n r) ≡ n
+taken : (n : ℕ) (r : List Live) → n ≤ 1024 → length r ≡ 1024 → length (take n r) ≡ n
 taken n r l len = length-take n r ∙ min-eq-left (subst (λ (m : ℕ). n ≤ m) (sym len) l)
 
 abbrev R : RattleType
@@ -136,16 +136,16 @@ module _ {M : Type 1} (𝓤 : URA M) (H : Heap 𝓤) (A : Atoms 𝓤) (W : Given
   apart b n r v =
       qed W (‵ (fat fullShare rows-ty b 0 v) ∷ ‵ (Rows .own r (v ∷ [])) ∷ []) ∵ use1 W (‵ (fat fullShare (rawTy rows-ty) b 0 v)) (W .laws .at-raw fullShare rows-ty b 0 v) $
       fjoin ! $ fpack ! (List Val) (λ us. fsep (cellAt fullShare (Rows .mir) us b 0) (Rows .own r us)) (v ∷ []) $
-      use1 W (‵ (arr-parts (shares R) 8192 .part fullShare r b 0)) (array-apart 𝓤 H A W R fullShare tt 8192 r b 0) $ fsplit ! $ drop ! $
+      use1 W (‵ (arr-parts (shares R) 1024 .part fullShare r b 0)) (array-apart 𝓤 H A W R fullShare tt 1024 r b 0) $ fsplit ! $ drop ! $
       use1 W (‵ (parts (mem R) (shares R) fullShare (take n r) b 0) ⊛ ‵ (behind n r b 0)) (cut 𝓤 H A W n r b 0) $ split ! $ feqI ! ℕ (length (take n r)) (length (take n r)) refl $ fjoin ! $ frame ! $ done !
 
-  back : (b n : ℕ) (r : List Live) → length r ≡ 8192 → ent 𝓤 (⋆ 𝓤 H A (‵ (arr-parts (shares R) (length (take n r)) .part fullShare (take n r) b 0) ∷ ‵ (behind n r b 0) ∷ [])) (H .room rows-ty b 0)
+  back : (b n : ℕ) (r : List Live) → length r ≡ 1024 → ent 𝓤 (⋆ 𝓤 H A (‵ (arr-parts (shares R) (length (take n r)) .part fullShare (take n r) b 0) ∷ ‵ (behind n r b 0) ∷ [])) (H .room rows-ty b 0)
   unfolding partOf
   back b n r len =
       qed W (‵ (arr-parts (shares R) (length (take n r)) .part fullShare (take n r) b 0) ∷ ‵ (behind n r b 0) ∷ []) ∵ fsplit ! $ drop ! $
-      use2 W (‵ (parts (mem R) (shares R) fullShare r b 0)) (mend 𝓤 H A W n r b 0) $ feqI ! ℕ (length r) 8192 len $ fjoin ! $
-      use1 W (‵ (partAt Rows fullShare r b 0)) (array-whole 𝓤 H A W R fullShare 8192 r b 0) $ fpick ! (λ vs. fsplit ! $
-      spelt ! Rows (Is Rows) (shows 𝓤 H A Rows) vals (array-tells R (LL.vals Live·.the-type Live·L.the-laws) (LL.tells Live·.the-type Live·L.the-laws) 8192) fullShare r vs b 0 $
+      use2 W (‵ (parts (mem R) (shares R) fullShare r b 0)) (mend 𝓤 H A W n r b 0) $ feqI ! ℕ (length r) 1024 len $ fjoin ! $
+      use1 W (‵ (partAt Rows fullShare r b 0)) (array-whole 𝓤 H A W R fullShare 1024 r b 0) $ fpick ! (λ vs. fsplit ! $
+      spelt ! Rows (Is Rows) (shows 𝓤 H A Rows) vals (array-tells R (LL.vals Live·.the-type Live·L.the-laws) (LL.tells Live·.the-type Live·L.the-laws) 1024) fullShare r vs b 0 $
       keep ! (0 ∷ []) $ use1 W (‵ (fat fullShare rows-ty b 0 (only (vals r)))) (W .laws .raw-at fullShare rows-ty b 0 (only (vals r))) $
       use1 W (‵ (froom rows-ty b 0)) (W .laws .at-room rows-ty b 0 (only (vals r))) $ done !)
 
@@ -159,7 +159,7 @@ module _ {M : Type 1} (𝓤 : URA M) (H : Heap 𝓤) (A : Atoms 𝓤) (W : Given
   exits : (y : Firsts) (vy : Val) → y ≡ firstsOf (take n r) d → Is Firsts·.the-row y (vy ∷ []) → ent 𝓤 (emp 𝓤) (Post vy)
   exits y vy e is =
       qed W [] ∵ suffices ! _ (ends-at 𝓤 H A this.ended stayed (this.clauses 𝓤 H A at-mem run) W ((tt, tt, tt, (d, (r, (n, tt))), at′), tt) vy y (tt, (tt, (tt, tt))) (tt, (tt, (tt, tt)))) $ says ! e $ nothing ! $ frame ! $
-      nothing ! $ owned ! usize (Is usize) (uint-makes 𝓤 H A W w64) n _ (refl, n-is) $ fjoin ! $ owned ! Rows (Is Rows) (array-makes 𝓤 H A W Live·.the-row (LL.makes Live·.the-type Live·L.the-plain 𝓤 H A) 8192) r _ r-is $ fjoin ! $ owned ! Asked·.the-row (Is Asked·.the-row) (LL.makes Asked·.the-type Asked·L.the-plain 𝓤 H A) d _ d-is $ fjoin ! $ frame ! $ owned ! Firsts·.the-row (Is Firsts·.the-row) (LL.makes Firsts·.the-type Firsts·L.the-plain 𝓤 H A) y _ is $ done !
+      nothing ! $ owned ! usize (Is usize) (uint-makes 𝓤 H A W w64) n _ (refl, n-is) $ fjoin ! $ owned ! Rows (Is Rows) (array-makes 𝓤 H A W Live·.the-row (LL.makes Live·.the-type Live·L.the-plain 𝓤 H A) 1024) r _ r-is $ fjoin ! $ owned ! Asked·.the-row (Is Asked·.the-row) (LL.makes Asked·.the-type Asked·L.the-plain 𝓤 H A) d _ d-is $ fjoin ! $ frame ! $ owned ! Firsts·.the-row (Is Firsts·.the-row) (LL.makes Firsts·.the-type Firsts·L.the-plain 𝓤 H A) y _ is $ done !
 
   abbrev to-find : ℕ → RefT (List Live) → Finding 𝓤 H A at-mem run .Ghost
   to-find α s = (((α ∷ [], tt), (fullShare, tt), tt, (s, (d, tt)), (sliceVal (s .ptr) (length (s .now)) ∷ [], (vd ∷ [], tt))), tt)
@@ -172,13 +172,13 @@ module _ {M : Type 1} (𝓤 : URA M) (H : Heap 𝓤) (A : Atoms 𝓤) (W : Given
   did-find : (α : ℕ) (s : RefT (List Live)) (y : Firsts) → ent 𝓤 (ensured 𝓤 H A first-lives.ended (first-lives.clauses 𝓤 H A at-mem run) (α ∷ [], tt) (s, (d, tt)) tt y) (fact 𝓤 (y ≡ firstsOf (s .now) d))
   did-find α s y = exE 𝓤 _ (λ ws. snd∗ 𝓤 (sem 𝓤 H A (lasts first-lives.ended (α ∷ [], tt) (s, (d, tt)) ws)) (fact 𝓤 (y ≡ firstsOf (s .now) d)))
 
-  len : length r ≡ 8192
+  len : length r ≡ 1024
   len = r-is .1 .0 .1
 
   rows-typed : T (hasTy rows-ty vr) × WT vr
-  rows-typed = array-lawful 𝓤 H A W Live·.the-row (LL.lawful Live·.the-type Live·L.the-laws 𝓤 H A W) 8192 .typed r (vr ∷ []) r-is .0
+  rows-typed = array-lawful 𝓤 H A W Live·.the-row (LL.lawful Live·.the-type Live·L.the-laws 𝓤 H A W) 1024 .typed r (vr ∷ []) r-is .0
 
-  walk : (𝓣 : Tables 𝓤 H) → Triple 𝓤 (𝓣 .C #first-lives) (Finding 𝓤 H A at-mem run) → n ≤ 8192
+  walk : (𝓣 : Tables 𝓤 H) → Triple 𝓤 (𝓣 .C #first-lives) (Finding 𝓤 H A at-mem run) → n ≤ 1024
       → ent 𝓤 (onEntry 𝓤 H A this.signature tt tt (d, (r, (n, tt))) at′) (WpFn 𝓤 H (𝓣 .C) (𝓣 .Λ) code.function (vd ∷ vr ∷ vint w64 n ∷ []) Post)
   walk 𝓣 known-find le =
       qed W (raw (onEntry 𝓤 H A this.signature tt tt (d, (r, (n, tt))) at′) ∷ []) ∵ enter ! (𝓣 .C) (𝓣 .Λ) code.function (vd ∷ vr ∷ vint w64 n ∷ []) _ $
@@ -189,7 +189,7 @@ module _ {M : Type 1} (𝓤 : URA M) (H : Heap 𝓤) (A : Atoms 𝓤) (W : Given
       assigns ! (addr ! (from ! (stop !))) (from ! (stop !)) (init ! 2 refl (tt, tt)) $
       assigns ! (agg ! (and-then ! (load ! (from ! (stop !)) (look ! 2 refl)) (and-then ! (load ! (from ! (stop !)) (look ! 6 refl)) (no-more !)))) (from ! (stop !)) (init ! 0 refl (tt, (tt, (record { fits = n-is }, tt)))) $
       rewrite ! 0 (λ (m : ℕ). ‵ (fat fullShare (sliceTy (tyRef erased imm (pointee (Live·.the-row .written)))) l6 0 (sliceVal (l4, 0) m))) (sym (taken n r le len)) refl $
-      owned ! Rows (Is Rows) (array-makes 𝓤 H A W Live·.the-row (LL.makes Live·.the-type Live·L.the-plain 𝓤 H A) 8192) r _ r-is $
+      owned ! Rows (Is Rows) (array-makes 𝓤 H A W Live·.the-row (LL.makes Live·.the-type Live·L.the-plain 𝓤 H A) 1024) r _ r-is $
       move ! (5 ∷ 0 ∷ []) $ use2 W (‵ (arr-parts (shares Live·.the-row) (length (take n r)) .part fullShare (take n r) l4 0) ⊛ ‵ (behind n r l4 0)) (apart 𝓤 H A W l4 n r vr) $ split ! $
       lft-new ! tt (λ α. move ! (1 ∷ []) $
       use1 W (later (some (λ (γ : GName). ‵ (ShrSlice (named 0) (α ∷ []) Live·.the-row .own (record { ptr = (l4, 0); name = γ; now = take n r }) (sliceVal (l4, 0) (length (take n r)) ∷ [])) ⊛ ‵ (flent (α ∷ []) (arr-parts (shares Live·.the-row) (length (take n r)) .part fullShare (take n r) l4 0)))))
@@ -209,8 +209,8 @@ module _ {M : Type 1} (𝓤 : URA M) (H : Heap 𝓤) (A : Atoms 𝓤) (W : Given
 
 module _ {M : Type 1} (𝓤 : URA M) (H : Heap 𝓤) (A : Atoms 𝓤) (W : Given 𝓤 H A) (mem : Memory → SProp 𝓤) (run : Routine → Fun 𝓤) where
   walks : (𝓣 : Tables 𝓤 H) → Triple 𝓤 (𝓣 .C #first-lives) (Finding 𝓤 H A mem run) → Walks 𝓤 H A this.ended stayed (WpFn 𝓤 H (𝓣 .C) (𝓣 .Λ) code.function) (this.clauses 𝓤 H A mem run)
-  walks 𝓣 known-find = walked 𝓤 H A this.ended stayed (this.clauses 𝓤 H A mem run) (WpFn 𝓤 H (𝓣 .C) (𝓣 .Λ) code.function) (λ κs. (LL.vals Asked·.the-type Asked·L.the-laws, (vals, (uint-vals w64, tt)))) (λ κs. (LL.tells Asked·.the-type Asked·L.the-laws, (array-tells R (LL.vals Live·.the-type Live·L.the-laws) (LL.tells Live·.the-type Live·L.the-laws) 8192, (uint-tells w64, tt))))
-      (λ κs qs bounds a g are. needs 𝓤 (a .1 .1 .0 ≤ 8192) _ (walk 𝓤 H A W mem run (a .0) _ (are .0) (a .1 .0) _ (are .1 .0) (a .1 .1 .0) (are .1 .1 .0 .1) 𝓣 known-find))
+  walks 𝓣 known-find = walked 𝓤 H A this.ended stayed (this.clauses 𝓤 H A mem run) (WpFn 𝓤 H (𝓣 .C) (𝓣 .Λ) code.function) (λ κs. (LL.vals Asked·.the-type Asked·L.the-laws, (vals, (uint-vals w64, tt)))) (λ κs. (LL.tells Asked·.the-type Asked·L.the-laws, (array-tells R (LL.vals Live·.the-type Live·L.the-laws) (LL.tells Live·.the-type Live·L.the-laws) 1024, (uint-tells w64, tt))))
+      (λ κs qs bounds a g are. needs 𝓤 (a .1 .1 .0 ≤ 1024) _ (walk 𝓤 H A W mem run (a .0) _ (are .0) (a .1 .0) _ (are .1 .0) (a .1 .1 .0) (are .1 .1 .0 .1) 𝓣 known-find))
 
 meets : {M : Type 1} (𝓤 : URA M) (H : Heap 𝓤) (A : Atoms 𝓤) → Given 𝓤 H A → (mem : Memory → SProp 𝓤) (run : Routine → Fun 𝓤) (𝓣 : Tables 𝓤 H)
     → Triple 𝓤 (𝓣 .C #first-lives) (Finding 𝓤 H A mem run) → Meets 𝓤 H A this.signature (WpFn 𝓤 H (𝓣 .C) (𝓣 .Λ) code.function) (this.spec 𝓤 H A mem run)

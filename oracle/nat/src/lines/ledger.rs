@@ -9,7 +9,7 @@ use minip2p_transport::{ConnectionId, StreamId};
 
 use crate::ledger::{Attribution, Claim, DialPurpose, Owner, PathLedger};
 use crate::swarm::{DialStart, NatSwarm, NatSwarmError};
-use crate::text::{Words, number};
+use crate::text::{Words, hex};
 use crate::types::NatToken;
 
 const ROWS: usize = 64;
@@ -45,13 +45,13 @@ impl Tables {
                 self.dials.remove(&conn);
                 let ended = self.ledger.finish_dial(ConnectionId(conn));
                 Some(ended.map_or("none".to_string(), |(token, purpose)| {
-                    format!("token={} {}", token.0, purpose_words(&purpose))
+                    dial_words(token, &purpose)
                 }))
             }
             b"abort" => {
+                let live = live(&words.bytes("live")?);
                 let id = words.number("id")?;
                 let target = words.number("target")?;
-                let live = live(words.word("live")?)?;
                 words.end(())?;
                 Some(self.abort(id, target, live))
             }
@@ -61,7 +61,7 @@ impl Tables {
                 words.end(())?;
                 Some(self.expect(peer, until))
             }
-            b"end" => {
+            b"close" => {
                 let peer = words.number("peer")?;
                 words.end(())?;
                 self.windows.remove(&peer);
@@ -77,25 +77,23 @@ impl Tables {
                     b"direct" => false,
                     _ => return None,
                 };
-                let claim = claim(words.word("claim")?)?;
+                let claim = claim(&mut words)?;
                 words.end(())?;
                 Some(self.attribute(at, peer, conn, circuit, claim))
             }
             b"replaced" => {
                 let old = Attribution {
-                    path: path(words.word("path")?)?,
-                    owner: owner(words.word("owner")?)?,
+                    path: path(&mut words)?,
+                    owner: owner(&mut words)?,
                 };
                 let new = words.number("new")?;
                 words.end(())?;
                 let upgrade = self.ledger.replaced(&old, ConnectionId(new));
                 Some(upgrade.map_or("none".to_string(), |upgrade| {
-                    format!(
-                        "upgrade owner={} from={} to={}",
-                        owner_word(Some(upgrade.owner)),
-                        path_word(&upgrade.from),
-                        path_word(&upgrade.to)
-                    )
+                    let owner = owner_words(Some(upgrade.owner));
+                    let (from, relay) = path_word(&upgrade.from);
+                    let (to, by) = path_word(&upgrade.to);
+                    format!("{owner} from={from} relay={relay} to={to} by={by}")
                 }))
             }
             b"forget" => {
@@ -104,13 +102,13 @@ impl Tables {
                 self.dials.remove(&conn);
                 self.paths.remove(&conn);
                 let forgotten = self.ledger.forget(ConnectionId(conn));
-                Some(forgotten.map_or("none".to_string(), |row| row_words(&row)))
+                Some(forgotten.map_or("none".to_string(), |row| name_words(&row)))
             }
             b"punched" => {
                 let conn = words.number("conn")?;
                 words.end(yes_no(self.ledger.is_punched(ConnectionId(conn))))
             }
-            b"tick" => {
+            b"expire" => {
                 let at = words.number("at")?;
                 words.end(())?;
                 self.windows.retain(|_, until| *until > at);
@@ -122,9 +120,18 @@ impl Tables {
                 words.end(next.map_or("none".to_string(), |at| format!("at={at}")))
             }
             b"quiet" => words.end(yes_no(self.ledger.is_quiet())),
-            b"show" => {
+            b"row" => {
+                let table = words.word("table")?;
+                let place = words.number("place")?;
+                let row = match table {
+                    b"dials" => Self::dial_at,
+                    b"windows" => Self::window_at,
+                    b"paths" => Self::path_at,
+                    _ => return None,
+                };
                 words.end(())?;
-                Some(self.show())
+                let row = usize::try_from(place).ok().and_then(|at| row(self, at));
+                Some(row.unwrap_or("none".to_string()))
             }
             _ => None,
         }
@@ -151,9 +158,13 @@ impl Tables {
                 self.dials.remove(&conn);
             }
         }
-        let retired: Vec<u64> = retired.iter().map(|token| token.0).collect();
-        let close: Vec<u64> = close.iter().map(|conn| conn.0).collect();
-        format!("retired={} close={}", joined(&retired), joined(&close))
+        let retired: Vec<u8> = (retired.iter())
+            .flat_map(|token| token.0.to_be_bytes())
+            .collect();
+        let close: Vec<u8> = (close.iter())
+            .flat_map(|conn| conn.0.to_be_bytes())
+            .collect();
+        format!("retired={} close={}", hex(&retired), hex(&close))
     }
 
     fn expect(&mut self, peer: u64, until: u64) -> String {
@@ -185,44 +196,28 @@ impl Tables {
             None => "path=none".to_string(),
             Some(row) => {
                 self.paths.insert(conn);
-                row_words(&row)
+                name_words(&row)
             }
         }
     }
 
-    fn show(&mut self) -> String {
-        let conns: Vec<u64> = self.dials.iter().copied().collect();
-        let dials: Vec<String> = conns
-            .into_iter()
-            .map(|conn| {
-                let (token, purpose) = self.dial_row(conn).expect("followed");
-                format!("{conn}:{}:{}", token.0, purpose_word(&purpose))
-            })
-            .collect();
-        let peers: Vec<(u64, u64)> = (self.windows.iter())
-            .map(|(peer, until)| (*peer, *until))
-            .collect();
-        let windows: Vec<String> = peers
-            .into_iter()
-            .map(|(peer, until)| {
-                assert_eq!(self.window_end(peer), until, "the end of {peer}'s window");
-                format!("{peer}:{until}")
-            })
-            .collect();
-        let conns: Vec<u64> = self.paths.iter().copied().collect();
-        let paths: Vec<String> = conns
-            .into_iter()
-            .map(|conn| {
-                let row = self.path_row(conn);
-                format!("{conn}:{}:{}", path_word(&row.path), owner_word(row.owner))
-            })
-            .collect();
-        format!(
-            "dials={} windows={} paths={}",
-            joined(&dials),
-            joined(&windows),
-            joined(&paths)
-        )
+    /// The dial at a place of the order.
+    fn dial_at(&mut self, place: usize) -> Option<String> {
+        let conn = *self.dials.iter().nth(place)?;
+        let (token, purpose) = self.dial_row(conn).expect("followed");
+        Some(format!("conn={conn} {}", dial_words(token, &purpose)))
+    }
+
+    fn window_at(&mut self, place: usize) -> Option<String> {
+        let (&peer, &until) = self.windows.iter().nth(place)?;
+        assert_eq!(self.window_end(peer), until, "the end of {peer}'s window");
+        Some(format!("peer={peer} until={until}"))
+    }
+
+    fn path_at(&mut self, place: usize) -> Option<String> {
+        let conn = *self.paths.iter().nth(place)?;
+        let row = self.path_row(conn);
+        Some(format!("conn={conn} {}", name_words(&row)))
     }
 
     /// Takes a dial out and puts it back.
@@ -296,112 +291,94 @@ fn yes_no(yes: bool) -> String {
     if yes { "yes" } else { "no" }.to_string()
 }
 
-fn joined(items: &[impl ToString]) -> String {
-    if items.is_empty() {
-        return "-".to_string();
-    }
-    let items: Vec<String> = items.iter().map(ToString::to_string).collect();
-    items.join(",")
-}
-
 fn purpose(words: &mut Words<'_>) -> Option<DialPurpose> {
-    Some(match words.word("purpose")? {
-        b"relay" => DialPurpose::Relay(
-            ConnectId(words.number("id")?),
-            PeerAddr(PeerId(words.number("relay")?)),
-        ),
-        b"punch" => DialPurpose::Punch(ConnectId(words.number("id")?)),
-        b"probe" => DialPurpose::Probe(PeerId(words.number("peer")?)),
-        b"reserve" => DialPurpose::Reserve(PeerId(words.number("peer")?)),
+    let word = words.word("purpose")?;
+    let of = words.number("of")?;
+    let relay = words.number("relay")?;
+    Some(match word {
+        b"relay" => DialPurpose::Relay(ConnectId(of), PeerAddr(PeerId(relay))),
+        b"punch" => DialPurpose::Punch(ConnectId(of)),
+        b"probe" => DialPurpose::Probe(PeerId(of)),
+        b"reserve" => DialPurpose::Reserve(PeerId(of)),
         _ => return None,
     })
 }
 
-fn purpose_words(purpose: &DialPurpose) -> String {
-    match purpose {
-        DialPurpose::Relay(id, relay) => {
-            format!("purpose=relay id={} relay={}", id.0, relay.peer_id())
-        }
-        DialPurpose::Punch(id) => format!("purpose=punch id={}", id.0),
-        DialPurpose::Probe(peer) => format!("purpose=probe peer={peer}"),
-        DialPurpose::Reserve(peer) => format!("purpose=reserve peer={peer}"),
-    }
+fn dial_words(token: NatToken, purpose: &DialPurpose) -> String {
+    let (word, of, relay) = match purpose {
+        DialPurpose::Relay(id, relay) => ("relay", id.0, relay.peer_id().0),
+        DialPurpose::Punch(id) => ("punch", id.0, 0),
+        DialPurpose::Probe(peer) => ("probe", peer.0, 0),
+        DialPurpose::Reserve(peer) => ("reserve", peer.0, 0),
+    };
+    format!("token={} purpose={word} of={of} relay={relay}", token.0)
 }
 
-fn purpose_word(purpose: &DialPurpose) -> String {
-    match purpose {
-        DialPurpose::Relay(id, relay) => format!("relay:{}:{}", id.0, relay.peer_id()),
-        DialPurpose::Punch(id) => format!("punch:{}", id.0),
-        DialPurpose::Probe(peer) => format!("probe:{peer}"),
-        DialPurpose::Reserve(peer) => format!("reserve:{peer}"),
-    }
-}
-
-fn claim(word: &[u8]) -> Option<Option<Claim>> {
-    let parts: Vec<&[u8]> = word.split(|byte| *byte == b':').collect();
-    Some(match parts[..] {
-        [b"none"] => None,
-        [b"circuit", relay, machine] => Some(Claim::Circuit {
-            relay: PeerId(number(relay)?),
-            owner: owner(machine)??,
-        }),
-        [b"direct", id] => Some(Claim::Direct(ConnectId(number(id)?))),
+fn claim(words: &mut Words<'_>) -> Option<Option<Claim>> {
+    let word = words.word("claim")?;
+    let relay = PeerId(words.number("relay")?);
+    let id = ConnectId(words.number("id")?);
+    let owner = match word {
+        b"none" => return Some(None),
+        b"direct" => return Some(Some(Claim::Direct(id))),
+        b"inbound" => Owner::Inbound,
+        b"attempt" => Owner::Attempt(id),
         _ => return None,
-    })
+    };
+    Some(Some(Claim::Circuit { relay, owner }))
 }
 
-fn owner(word: &[u8]) -> Option<Option<Owner>> {
+fn owner(words: &mut Words<'_>) -> Option<Option<Owner>> {
+    let word = words.word("owner")?;
+    let id = ConnectId(words.number("id")?);
     Some(match word {
         b"none" => None,
         b"inbound" => Some(Owner::Inbound),
-        id => Some(Owner::Attempt(ConnectId(number(id)?))),
+        b"attempt" => Some(Owner::Attempt(id)),
+        _ => return None,
     })
 }
 
-fn owner_word(owner: Option<Owner>) -> String {
-    match owner {
-        None => "none".to_string(),
-        Some(Owner::Inbound) => "inbound".to_string(),
-        Some(Owner::Attempt(id)) => id.0.to_string(),
-    }
+fn owner_words(owner: Option<Owner>) -> String {
+    let (word, id) = match owner {
+        None => ("none", 0),
+        Some(Owner::Inbound) => ("inbound", 0),
+        Some(Owner::Attempt(id)) => ("attempt", id.0),
+    };
+    format!("owner={word} id={id}")
 }
 
-fn path(word: &[u8]) -> Option<Path> {
+fn path(words: &mut Words<'_>) -> Option<Path> {
+    let word = words.word("path")?;
+    let relay = PeerId(words.number("relay")?);
     Some(match word {
+        b"relayed" => Path::Relayed { relay },
         b"punched" => Path::Punched,
         b"direct" => Path::Direct,
-        _ => Path::Relayed {
-            relay: PeerId(number(word.strip_prefix(b"relayed:")?)?),
-        },
+        _ => return None,
     })
 }
 
-fn path_word(path: &Path) -> String {
+fn path_word(path: &Path) -> (&'static str, u64) {
     match path {
-        Path::Relayed { relay } => format!("relayed:{relay}"),
-        Path::Punched => "punched".to_string(),
-        Path::Direct => "direct".to_string(),
+        Path::Relayed { relay } => ("relayed", relay.0),
+        Path::Punched => ("punched", 0),
+        Path::Direct => ("direct", 0),
     }
 }
 
-fn row_words(row: &Attribution) -> String {
-    let owner = owner_word(row.owner);
-    match &row.path {
-        Path::Relayed { relay } => format!("path=relayed relay={relay} owner={owner}"),
-        Path::Punched => format!("path=punched owner={owner}"),
-        Path::Direct => format!("path=direct owner={owner}"),
-    }
+fn name_words(row: &Attribution) -> String {
+    let (path, relay) = path_word(&row.path);
+    format!("path={path} relay={relay} {}", owner_words(row.owner))
 }
 
-fn live(word: &[u8]) -> Option<Vec<(u64, u64)>> {
-    if word == b"-" {
-        return Some(Vec::new());
-    }
-    word.split(|byte| *byte == b',')
-        .map(|record| {
-            let colon = record.iter().position(|byte| *byte == b':')?;
-            Some((number(&record[..colon])?, number(&record[colon + 1..])?))
-        })
+/// Records of two numbers of eight bytes; what is behind the last whole one
+/// plays no part.
+fn live(bytes: &[u8]) -> Vec<(u64, u64)> {
+    let number = |half: &[u8]| u64::from_be_bytes(half.try_into().expect("eight bytes"));
+    bytes
+        .chunks_exact(16)
+        .map(|record| (number(&record[..8]), number(&record[8..])))
         .collect()
 }
 
