@@ -1,23 +1,32 @@
 -- What is printed of a line is what the definitions say. Assumes nothing.
-use mathlib.Core.Path.{_≡_, ap, _∙_}
-use mathlib.Core.List.{List, _++_}
+use mathlib.Core.Path.{_≡_, refl, ap, _∙_}
+use mathlib.Core.List.{List, [], _∷_}
 use mathlib.Core.Bool.{Bool}
 use Prim.Native.Nat.{ℕ}
 use Rattle.prelude.specs.Choice.{bit}
-use Rattle.text.specs.Words.{ascii}
-use Rattle.text.specs.Decimal.{decimal}
 use Rattle.text.specs.Printed.{printed, behind}
+use Rattle.forms.specs.Forms.{kindOf}
+use Rattle.forms.specs.Texts.{number, word, text, valueIn, valuesFrom, valuesIn}
+use Rattle.vocabulary.specs.declared.Deadline.{Deadline}
+use Rattle.vocabulary.specs.declared.Deadline.the-variants.{At, None}
 use Rattle.journal_calls.specs.Calls.{Journal, Turned}
 use Rattle.journal_turns.specs.Turns.{lineTurn}
 use Rattle.circuit_questions.specs.declared.Answers.{Answers}
-use Rattle.circuit_questions.specs.Answers.{answersOf, nextText, answersText, turnText, lineText}
+use Rattle.circuit_questions.specs.declared.Given.{Given}
+use Rattle.circuit_questions.specs.Answers.{answersOf, deadlineWords, deadlineValue, answersForm, answersText, turnText, lineText}
 
-pub answers-text : (n : ℕ) (a : Answers) (took : Bool) {promotes claims taken : ℕ} → promotes ≡ bit (a .promotes) → claims ≡ bit (a .claims)
-    → taken ≡ bit took
-    → ascii "n=" ++ decimal n ++ nextText (a .next) ++ (ascii " promotes=" ++ decimal promotes) ++ (ascii " claims=" ++ decimal claims)
-    ++ (ascii " took=" ++ decimal taken) ++ ascii "\n" ≡ answersText n a took
-unfolding answersText
-answers-text n a took e f g = rw (e, f, g)
+words-text : (source : List ℕ) (n : ℕ) (next : Deadline) (p q t : ℕ)
+    → text answersForm (number n ∷ deadlineValue next ∷ word p ∷ word q ∷ word t ∷ [])
+    ≡ text answersForm (valuesIn source answersForm (n ∷ deadlineWords next .given ∷ deadlineWords next .at ∷ p ∷ q ∷ t ∷ []))
+unfolding valuesIn valuesFrom valueIn kindOf
+words-text source n (At end) p q t = refl
+words-text source n None p q t = refl
+
+pub answers-text : (source : List ℕ) (n : ℕ) (a : Answers) (took : Bool) {d : Given} {p q t : ℕ} → d ≡ deadlineWords (a .next) → p ≡ bit (a .promotes)
+    → q ≡ bit (a .claims) → t ≡ bit took
+    → text answersForm (number n ∷ deadlineValue (a .next) ∷ word (bit (a .promotes)) ∷ word (bit (a .claims)) ∷ word (bit took) ∷ [])
+    ≡ text answersForm (valuesIn source answersForm (n ∷ d .given ∷ d .at ∷ p ∷ q ∷ t ∷ []))
+answers-text source n a took e f g h = rw (e, f, g, h) (words-text source n (a .next) (bit (a .promotes)) (bit (a .claims)) (bit took))
 
 pub line-answered : (j : Journal) (reply line : List ℕ) (ended : Bool) (o : List ℕ) (t : Turned) {a : Answers} {b x : List ℕ} {q : ℕ}
     → (t ≡ lineTurn j reply line ended .turn) × (b ≡ lineTurn j reply line ended .reply)

@@ -1,10 +1,10 @@
 -- What the circuit answers after a line (RULES.md, section 11.9), and what is printed of it (README.md).
 use Prim.Native.Nat.{ℕ}
 use mathlib.Core.Bool.{Bool, true, false}
-use mathlib.Core.List.{List, _++_}
+use mathlib.Core.List.{List, [], _∷_, _++_}
 use Rattle.prelude.specs.Choice.{pick, bit}
 use Rattle.text.specs.Words.{ascii}
-use Rattle.text.specs.Decimal.{decimal}
+use Rattle.forms.specs.Texts.{Value, number, some, absent, word, text}
 use Rattle.path.specs.declared.Claim.{Claim}
 use Rattle.vocabulary.specs.declared.Deadline.{Deadline}
 use Rattle.circuit.specs.declared.state.Core.{Core}
@@ -12,6 +12,7 @@ use Rattle.questions.specs.Questions.{promotesOf, claimOf, nextDeadlineAt}
 use Rattle.journal_calls.specs.Calls.{Journal, Turned}
 use Rattle.journal_turns.specs.Turns.{lineTurn}
 use Rattle.circuit_questions.specs.declared.Answers.{Answers}
+use Rattle.circuit_questions.specs.declared.Given.{Given}
 use Rattle.path.specs.declared.Claim.the-variants as claim
 use Rattle.vocabulary.specs.declared.Deadline.the-variants as deadline
 
@@ -35,18 +36,22 @@ answersOf begun c =
 
 -- ---- what is printed
 
-abbrev pub nextText : Deadline → List ℕ
-nextText (deadline.At end) = ascii " next=" ++ decimal end
-nextText deadline.None = ascii " next=none"
+-- a time or none
+abbrev pub deadlineWords : Deadline → Given
+deadlineWords (deadline.At end) = record { given = 1; at = end }
+deadlineWords deadline.None = record { given = 0; at = 0 }
+
+abbrev pub deadlineValue : Deadline → Value
+deadlineValue (deadline.At end) = some end
+deadlineValue deadline.None = absent
+
+abbrev pub answersForm : List ℕ
+answersForm = ascii "n=# next=* promotes=(0/1) claims=(0/1) took=(0/1)"
 
 -- the last is of the line's call itself: whether it took an established connection (section 11.5)
 unfoldable pub answersText : ℕ → Answers → (took : Bool) → List ℕ
 answersText n a took =
-    ascii "n=" ++ decimal n
-    ++ nextText (a .next)
-    ++ (ascii " promotes=" ++ decimal (bit (a .promotes)))
-    ++ (ascii " claims=" ++ decimal (bit (a .claims)))
-    ++ (ascii " took=" ++ decimal (bit took))
+    text answersForm (number n ∷ deadlineValue (a .next) ∷ word (bit (a .promotes)) ∷ word (bit (a .claims)) ∷ word (bit took) ∷ [])
     ++ ascii "\n"
 
 -- in the line's number, of the circuit as the line leaves it, and of what the line's call answered

@@ -8,7 +8,7 @@ ghost use Rattle.text.specs.Printed.{printed, behind};
 ghost use Rattle.ledger.specs.Ledger.{tablesOf};
 ghost use Rattle.journal_calls.specs.Calls.{whole};
 ghost use Rattle.journal_turns.specs.Turns.{lineTurn};
-ghost use Rattle.circuit_questions.specs.Answers.{isClaim, answersOf, nextText, answersText, lineText};
+ghost use Rattle.circuit_questions.specs.Answers.{isClaim, answersOf, deadlineWords, answersText, lineText};
 use circuit::state::Core;
 use frames::FrameBytes;
 use journal_calls::State;
@@ -69,13 +69,18 @@ fn one_if(v: bool) -> u64
     0
 }
 
-fn put_next(next: Deadline, out: &mut [u8], at: usize) -> usize
-    ensures bytes { λ r. ⌜ now (out .exit) ≡ printed (now (out .entry)) at (nextText next) ⌝ }
-    ensures place { λ r. ⌜ r ≡ behind (now (out .entry)) at (nextText next) ⌝ }
+// A time, or none: whether there is one, and which.
+pub struct Given {
+    pub given: u64,
+    pub at: u64,
+}
+
+fn deadline_words(next: Deadline) -> Given
+    ensures { λ r. ⌜ r ≡ deadlineWords next ⌝ }
 {
     match next {
-        Deadline::At(end) => fields::put_number(b" next=", end, out, at),
-        Deadline::None => text::put_text(b" next=none", out, at),
+        Deadline::At(end) => Given { given: 1, at: end },
+        Deadline::None => Given { given: 0, at: 0 },
     }
 }
 
@@ -84,15 +89,19 @@ fn put_answers(n: u64, a: Answers, took: bool, out: &mut [u8]) -> usize
     ensures place { λ r. ⌜ r ≡ behind (now (out .entry)) 0 (answersText n a took) ⌝ }
 {
     let next = a.next;
+    let d = deadline_words(next);
     let promotes = one_if(a.promotes);
     let claims = one_if(a.claims);
     let taken = one_if(took);
-    let p = fields::put_number(b"n=", n, out, 0);
-    let p = put_next(next, out, p);
-    let p = fields::put_number(b" promotes=", promotes, out, p);
-    let p = fields::put_number(b" claims=", claims, out, p);
-    let p = fields::put_number(b" took=", taken, out, p);
-    text::put_text(b"\n", out, p)
+    let words = [n, d.given, d.at, promotes, claims, taken];
+    let p = forms::put_form(
+        b"n=# next=* promotes=(0/1) claims=(0/1) took=(0/1)",
+        &words,
+        b"",
+        out,
+        0,
+    );
+    text::put_byte(b'\n', out, p)
 }
 
 // ---- a line
