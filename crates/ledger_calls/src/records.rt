@@ -83,7 +83,9 @@ pub fn read_lives(s: &[u8]) -> Lives
 
 // ---- written
 
-fn octets(v: u64) -> [u8; 8]
+type Eight = [u8; 8];
+
+fn octets(v: u64) -> Eight
     ensures { λ r. ⌜ r ≡ octets v ⌝ }
 {
     [
