@@ -139,15 +139,20 @@ MULTICAST4 = ipaddress.ip_network('224.0.0.0/4')
 MULTICAST6 = ipaddress.ip_network('ff00::/8')
 
 
+def ends_well(rest):
+    """Whether nothing stands behind quic-v1, or one whole peer name."""
+    return not rest or (rest[:2] == b'\xa5\x03' and len(rest) > 3 and 1 <= rest[2] <= 127 and len(rest) == 3 + rest[2])
+
+
 def parsed(address):
     """IP and port of an address of the form, or None."""
-    if len(address) == 11 and address[0] == 0x04:
+    if len(address) >= 11 and address[0] == 0x04:
         ip, rest = ipaddress.IPv4Address(address[1:5]), address[5:]
-    elif len(address) == 23 and address[0] == 0x29:
+    elif len(address) >= 23 and address[0] == 0x29:
         ip, rest = ipaddress.IPv6Address(address[1:17]), address[17:]
     else:
         return None
-    if rest[:2] != b'\x91\x02' or rest[4:] != b'\xcd\x03':
+    if rest[:2] != b'\x91\x02' or rest[4:6] != b'\xcd\x03' or not ends_well(rest[6:]):
         return None
     return ip, int.from_bytes(rest[2:4], 'big')
 

@@ -146,9 +146,14 @@ def read_list(b):
 def parse_address(a):
     """(family, ip bytes, port) or None"""
     for fam, first, n in ((4, 0x04, 4), (6, 0x29, 16)):
-        if (len(a) == n + 7 and a[0] == first and a[n + 1:n + 3] == b"\x91\x02"
-                and a[n + 5:] == b"\xcd\x03"):
-            return fam, a[1:1 + n], a[n + 3] * 256 + a[n + 4]
+        if a[:1] != bytes([first]) or len(a) < n + 7:
+            continue
+        if a[n + 1:n + 3] != b"\x91\x02" or a[n + 5:n + 7] != b"\xcd\x03":
+            continue
+        name = a[n + 7:]
+        if name and not (name[:2] == b"\xa5\x03" and len(name) >= 4 and len(name) - 3 == name[2] <= 127):
+            continue
+        return fam, a[1:1 + n], a[n + 3] * 256 + a[n + 4]
     return None
 
 

@@ -1,8 +1,8 @@
 -- An address as the bytes of a multiaddr (RULES.md, section 6).
 use Prim.Native.Nat.{ℕ, _+_, _*_, _-_}
-use mathlib.Core.Bool.{Bool}
+use mathlib.Core.Bool.{Bool, true}
 use mathlib.Core.List.{List, [], _∷_}
-use lib.Dec.{eqb}
+use lib.Dec.{eqb, leb}
 use lib.ListN.{length, getD, take, drop}
 use Rattle.prelude.specs.Choice.{pick, both}
 use Rattle.address.specs.declared.Ip.the-variants.{V4, V6}
@@ -22,20 +22,40 @@ number a e s = bigEndian 0 (take (e - a) (drop a s))
 abbrev pub beside : ℕ
 beside = 7
 
+-- a peer name: p2p and a length byte before it, and the most bytes that it has
+abbrev pub nameHead : ℕ
+nameHead = 3
+
+abbrev pub longestName : ℕ
+longestName = 127
+
 -- the most bytes of an address of each family
 abbrev pub longest4 : ℕ
-longest4 = 4 + beside
+longest4 = 4 + beside + nameHead + longestName
 
 abbrev pub longest6 : ℕ
-longest6 = 16 + beside
+longest6 = 16 + beside + nameHead + longestName
 
--- a family's code, n bytes of IP, udp with a port of two bytes, quic-v1, and nothing more
+-- p2p, a length byte of 1 to 127, as many bytes, and nothing more
+unfoldable pub isName : List ℕ → Bool
+isName s =
+    both (eqb (getD s 0 0) 0xa5)
+    (both (eqb (getD s 1 0) 0x03)
+    (both (leb 1 (getD s 2 0)) (both (leb (getD s 2 0) longestName) (eqb (length s) (nameHead + getD s 2 0)))))
+
+-- what stands behind quic-v1: nothing, or a peer name
+unfoldable pub endsWell : List ℕ → Bool
+endsWell [] = true
+endsWell (b ∷ s) = isName (b ∷ s)
+
+-- a family's code, n bytes of IP, udp with a port of two bytes, quic-v1, and a peer name or nothing
 unfoldable pub hasForm : ℕ → ℕ → List ℕ → Bool
 hasForm family n s =
-    both (eqb (length s) (n + beside))
+    both (leb (n + beside) (length s))
     (both (eqb (getD s 0 0) family)
     (both (eqb (getD s (n + 1) 0) 0x91)
-    (both (eqb (getD s (n + 2) 0) 0x02) (both (eqb (getD s (n + 5) 0) 0xcd) (eqb (getD s (n + 6) 0) 0x03)))))
+    (both (eqb (getD s (n + 2) 0) 0x02)
+    (both (eqb (getD s (n + 5) 0) 0xcd) (both (eqb (getD s (n + 6) 0) 0x03) (endsWell (drop (n + beside) s)))))))
 
 -- ip4 is 04, ip6 is 29
 unfoldable pub parsed : List ℕ → Parsed

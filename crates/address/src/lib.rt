@@ -7,7 +7,7 @@ ghost use lib.ListN.{length};
 ghost use Rattle.address.specs.LeadingBits.{sameLeadingBits};
 ghost use Rattle.address.specs.Ranges.{liesIn, firstRow, longestRow, table, verdictOf, permits};
 ghost use Rattle.address.specs.Words.{InBits, judgedAs, passes, mayBeTarget};
-ghost use Rattle.address.specs.Multiaddr.{bigEndian, number, hasForm, parsed};
+ghost use Rattle.address.specs.Multiaddr.{bigEndian, number, isName, endsWell, hasForm, parsed};
 
 // An IP address: 32 bits, or two halves of 64 bits.
 pub enum Ip {
@@ -233,17 +233,62 @@ fn number_at(s: &[u8], a: usize, e: usize) -> u64
 // The bytes beside the IP: the family's code, udp with a port of two bytes, and quic-v1.
 const BESIDE: usize = 7;
 
+// What stands before a peer name's bytes: p2p and a length byte.
+const NAME_HEAD: usize = 3;
+
+const LONGEST_NAME: usize = 127;
+
 // The most bytes of an address of each family.
-pub const LONGEST_V4: usize = 4 + BESIDE;
+pub const LONGEST_V4: usize = 4 + BESIDE + NAME_HEAD + LONGEST_NAME;
 
-pub const LONGEST_V6: usize = 16 + BESIDE;
+pub const LONGEST_V6: usize = 16 + BESIDE + NAME_HEAD + LONGEST_NAME;
 
-// Whether the bytes are a family's code, `n` bytes of IP, udp with a port, quic-v1 and nothing more.
+fn wide(b: u8) -> usize
+    ensures { λ r. ⌜ r ≡ b ⌝ }
+{
+    b as usize
+}
+
+// Whether the bytes are p2p, a length byte of 1 to 127, as many bytes and nothing more.
+fn is_name(s: &[u8]) -> bool
+    ensures { λ r. ⌜ r ≡ isName (now (s .entry)) ⌝ }
+{
+    if s.len() < NAME_HEAD {
+        return false;
+    }
+    if s[0] != 0xa5 {
+        return false;
+    }
+    if s[1] != 0x03 {
+        return false;
+    }
+    let n = wide(s[2]);
+    if n == 0 {
+        return false;
+    }
+    if LONGEST_NAME < n {
+        return false;
+    }
+    s.len() == NAME_HEAD + n
+}
+
+// Whether the bytes behind quic-v1 are none, or a peer name.
+fn ends_well(s: &[u8]) -> bool
+    ensures { λ r. ⌜ r ≡ endsWell (now (s .entry)) ⌝ }
+{
+    if s.len() == 0 {
+        return true;
+    }
+    is_name(s)
+}
+
+// Whether the bytes are a family's code, `n` bytes of IP, udp with a port, quic-v1, and a peer name or nothing more.
 fn has_form(s: &[u8], family: u8, n: usize) -> bool
     requires { ⌜ n ≤ 16 ⌝ }
     ensures { λ r. ⌜ r ≡ hasForm family n (now (s .entry)) ⌝ }
 {
-    if s.len() != n + BESIDE {
+    let end = n + BESIDE;
+    if s.len() < end {
         return false;
     }
     if s[0] != family {
@@ -258,7 +303,10 @@ fn has_form(s: &[u8], family: u8, n: usize) -> bool
     if s[n + 5] != 0xcd {
         return false;
     }
-    s[n + 6] == 0x03
+    if s[n + 6] != 0x03 {
+        return false;
+    }
+    ends_well(&s[end..])
 }
 
 pub fn parse(s: &[u8]) -> Parsed

@@ -15,7 +15,7 @@ use Rattle.address.specs.declared.Ip.{Ip}
 use Rattle.address.specs.declared.Ip.the-variants.{V4, V6}
 use Rattle.address.specs.declared.Parsed.{Parsed}
 use Rattle.address.specs.declared.Parsed.the-variants.{Address, Other}
-use Rattle.address.proofs.Digits.{address-long}
+use Rattle.address.proofs.Digits.{address-short}
 use Rattle.wire.specs.Lists.{entries, entry, listed}
 use Rattle.wire.proofs.Entries.{AddressAt, entries-address}
 use Rattle.wire.proofs.Listed.{All, listed-snoc, read-back}
@@ -35,8 +35,8 @@ address-size a {ip} {port} e = by-test (hasForm 0x04 4 a) (hasForm 0x29 16 a) re
   where
     by-test : (p q : Bool) → hasForm 0x04 4 a ≡ p → hasForm 0x29 16 a ≡ q
         → pick p (Address (V4 (number 1 5 a)) (number 7 9 a)) (pick q (Address (V6 (number 1 9 a) (number 9 17 a)) (number 19 21 a)) Other) ≡ Address ip port → length a ≤ longest
-    by-test true q h g t = omega (arith, address-long 0x04 4 a (sym h) refl)
-    by-test false true h g t = omega (arith, address-long 0x29 16 a (sym g) refl)
+    by-test true q h g t = omega (arith, address-short 0x04 4 a h)
+    by-test false true h g t = omega (arith, address-short 0x29 16 a g)
     by-test false false h g t = let z : _≡_ {A = ℕ} 0 1 = cc in absurd (omega arith)
 
 pub both-true : (a b : Bool) → both a b ≡ true → (a ≡ true) × (b ≡ true)

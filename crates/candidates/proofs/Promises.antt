@@ -6,21 +6,21 @@ use mathlib.Core.List.{List, [], _∷_, _++_, append-assoc, foldl, foldl-append}
 use mathlib.Core.Logic.{_⊎_, inl, inr}
 use Prim.Native.Nat.{ℕ, _+_, _-_, _*_, _<_, _≤_}
 use native.Mathlib.Omega.{arith}
-use borrow.Author.Tests.{leb-false, ltb-false, le-leb, eq-eqb, ne-eqb}
-use lib.Dec.{ltb, leb, eqb}
+use borrow.Author.Tests.{leb-false, ltb-true, ltb-false, le-leb, le-ltb}
+use lib.Dec.{ltb, leb}
 use lib.ListN.{length, take, replicate, length-append}
 use lib.Seq.{take-append-seam}
 use Rattle.prelude.specs.Lists.{count, such}
-use Rattle.prelude.specs.Choice.{both, either, no, bit}
+use Rattle.prelude.specs.Choice.{both, no, bit}
 use Rattle.address.specs.Multiaddr.{parsed, hasForm, number, longest4, longest6}
 use Rattle.address.specs.declared.Ip.{Ip}
 use Rattle.address.specs.declared.Ip.the-variants.{V4, V6}
 use Rattle.address.specs.declared.Parsed.the-variants.{Address, Other}
-use Rattle.address.proofs.Digits.{address-long}
+use Rattle.address.proofs.Digits.{address-short}
 use Rattle.wire.specs.Lists.{entries, broken, entry, listed}
 use Rattle.wire.proofs.Listed.{All, read-back}
-use Rattle.candidates.specs.Entries.{contains, sameBytes, sameFamily, ofAddress, isAddress, inFamily, hasIp, hasSize}
-use Rattle.candidates.specs.Selection.{counted, roomFor, room, keep, bounded, punchable, selected, unlessThere, once, own, packed, entrySize, capacity, longest}
+use Rattle.candidates.specs.Entries.{contains, sameBytes, sameFamily, ofAddress, isAddress, inFamily, hasIp, longerThan}
+use Rattle.candidates.specs.Selection.{counted, roomFor, room, keep, bounded, punchable, selected, unlessThere, once, own, packed, entrySize, longestOf, capacity, longest}
 use Rattle.candidates.specs.Laws.{AllPass, Sublist, KeepsLimits, LimitMet, DropsOnlyAtLimits, Short, IsListOf, UsualNumbers}
 use Rattle.candidates.specs.declared.Limits.{Limits}
 use Rattle.candidates.specs.declared.Terms.{Terms}
@@ -118,35 +118,28 @@ own-complete l before after a ip port e w =
     sub-first ys = sub-once ys
 
 -- ---- sizes
--- an address has the size of its family's addresses
+-- an address is no longer than its family's longest
 pub record Sized (a : List ℕ) : Type 0 where
-  pub is : either (hasSize longest4 a) (hasSize longest6 a) ≡ true
-  pub short : hasSize longest4 a ≡ true → inFamily (V4 0) a ≡ true
-  pub long : hasSize longest6 a ≡ true → inFamily (V6 0 0) a ≡ true
-  pub adds : entrySize (length a) ≡ entrySize longest4 * bit (hasSize longest4 a) + entrySize longest6 * bit (hasSize longest6 a)
+  pub is : ofAddress (λ ip port. leb (length a) (longestOf ip)) a ≡ true
+  pub long : longerThan longest4 a ≡ true → inFamily (V6 0 0) a ≡ true
+  pub adds : entrySize (length a) ≤ entrySize longest4 * bit (inFamily (V4 0) a) + entrySize longest6 * bit (inFamily (V6 0 0) a)
   pub small : length a ≤ longest
 
-sized4 : (a : List ℕ) (n port : ℕ) → parsed a ≡ Address (V4 n) port → length a ≡ longest4 → Sized a
+sized4 : (a : List ℕ) (n port : ℕ) → parsed a ≡ Address (V4 n) port → length a ≤ longest4 → Sized a
 sized4 a n port e l =
-    let t : eqb (length a) longest4 ≡ true = eq-eqb (length a) longest4 l in
-    let f : eqb (length a) longest6 ≡ false = ne-eqb (length a) longest6 (λ (z : length a ≡ longest6). omega arith) in
     record {
-      is = rw t;
-      short = λ (h : hasSize longest4 a ≡ true). of-parsed (λ o p. sameFamily (V4 0) o) a e;
-      long = λ (h : hasSize longest6 a ≡ true). let z : _≡_ {A = Bool} true false = sym h ∙ f in let o : _≡_ {A = ℕ} 0 1 = cc in absurd (omega arith);
-      adds = omega (arith, ap bit t, ap bit f);
+      is = of-parsed (λ ip p. leb (length a) (longestOf ip)) a e ∙ le-leb (length a) longest4 l;
+      long = λ (h : longerThan longest4 a ≡ true). absurd (let z = ltb-true longest4 (length a) h in omega arith);
+      adds = omega (arith, ap bit (of-parsed (λ o p. sameFamily (V4 0) o) a e));
       small = omega arith;
     }
 
-sized6 : (a : List ℕ) (h l port : ℕ) → parsed a ≡ Address (V6 h l) port → length a ≡ longest6 → Sized a
+sized6 : (a : List ℕ) (h l port : ℕ) → parsed a ≡ Address (V6 h l) port → length a ≤ longest6 → Sized a
 sized6 a h l port e g =
-    let t : eqb (length a) longest6 ≡ true = eq-eqb (length a) longest6 g in
-    let f : eqb (length a) longest4 ≡ false = ne-eqb (length a) longest4 (λ (z : length a ≡ longest4). omega arith) in
     record {
-      is = rw (f, t);
-      short = λ (h : hasSize longest4 a ≡ true). let z : _≡_ {A = Bool} true false = sym h ∙ f in let o : _≡_ {A = ℕ} 0 1 = cc in absurd (omega arith);
-      long = λ (h : hasSize longest6 a ≡ true). of-parsed (λ o p. sameFamily (V6 0 0) o) a e;
-      adds = omega (arith, ap bit t, ap bit f);
+      is = of-parsed (λ ip p. leb (length a) (longestOf ip)) a e ∙ le-leb (length a) longest6 g;
+      long = λ (h : longerThan longest4 a ≡ true). of-parsed (λ o p. sameFamily (V6 0 0) o) a e;
+      adds = omega (arith, ap bit (of-parsed (λ o p. sameFamily (V6 0 0) o) a e));
       small = omega arith;
     }
 
@@ -155,8 +148,8 @@ unfolding parsed
 sized a ip port e = by-test (hasForm 0x04 4 a) (hasForm 0x29 16 a) refl refl
   where
     by-test : (p q : Bool) → hasForm 0x04 4 a ≡ p → hasForm 0x29 16 a ≡ q → Sized a
-    by-test true q f g = sized4 a (number 1 5 a) (number 7 9 a) (rw f) (address-long 0x04 4 a (sym f) refl)
-    by-test false true f g = sized6 a (number 1 9 a) (number 9 17 a) (number 19 21 a) (rw (f, g)) (address-long 0x29 16 a (sym g) refl)
+    by-test true q f g = sized4 a (number 1 5 a) (number 7 9 a) (rw f) (address-short 0x04 4 a f)
+    by-test false true f g = sized6 a (number 1 9 a) (number 9 17 a) (number 19 21 a) (rw (f, g)) (address-short 0x29 16 a g)
     by-test false false f g = let z : Other ≡ Address ip port = sym (rw (f, g)) ∙ e in let o : _≡_ {A = ℕ} 0 1 = cc in absurd (omega arith)
 
 all-sized : (l : Limits) (xs : List (List ℕ)) → All Sized (bounded l xs)
@@ -171,24 +164,28 @@ fewer p q (a ∷ xs) h = by-test (p a) refl (fewer p q xs (h .1))
     by-test true e r = omega (arith, ap bit (h .0 e))
     by-test false e r = omega arith
 
-total-length : (xs : List (List ℕ)) → All Sized xs → length (listed xs) ≡ entrySize longest4 * count (hasSize longest4) xs + entrySize longest6 * count (hasSize longest6) xs
+total-length : (xs : List (List ℕ)) → All Sized xs → length (listed xs) ≤ entrySize longest4 * count (inFamily (V4 0)) xs + entrySize longest6 * count (inFamily (V6 0 0)) xs
 unfolding listed count
-total-length [] h = refl
+total-length [] h = omega arith
 total-length (a ∷ xs) h = omega (arith, length-append (entry a) (listed xs), h .0 .adds, total-length xs (h .1))
+
+none-longer : (xs : List (List ℕ)) → All Sized xs → count (longerThan longest6) xs ≡ 0
+unfolding count
+none-longer [] h = refl
+none-longer (a ∷ xs) h = omega (arith, ap bit (le-ltb longest6 (length a) (h .0 .small)), none-longer xs (h .1))
 
 short : (l : Limits) (xs : List (List ℕ)) → Short l (bounded l xs)
 short l xs =
     let s = all-sized l xs in
     let k = bounded l xs in
-    let u : count (hasSize longest4) k ≤ count (inFamily (V4 0)) k = fewer (hasSize longest4) (inFamily (V4 0)) k (all-map Sized (λ a. hasSize longest4 a ≡ true → inFamily (V4 0) a ≡ true) (λ (a : List ℕ) (w : Sized a). w .short) k s) in
-    let v : count (hasSize longest6) k ≤ count (inFamily (V6 0 0)) k = fewer (hasSize longest6) (inFamily (V6 0 0)) k (all-map Sized (λ a. hasSize longest6 a ≡ true → inFamily (V6 0 0) a ≡ true) (λ (a : List ℕ) (w : Sized a). w .long) k s) in
+    let v : count (longerThan longest4) k ≤ count (inFamily (V6 0 0)) k = fewer (longerThan longest4) (inFamily (V6 0 0)) k (all-map Sized (λ a. longerThan longest4 a ≡ true → inFamily (V6 0 0) a ≡ true) (λ (a : List ℕ) (w : Sized a). w .long) k s) in
     let x : count (inFamily (V4 0)) k ≤ l .family = family-kept l (V4 0) xs in
     let y : count (inFamily (V6 0 0)) k ≤ l .family = family-kept l (V6 0 0) xs in
     record {
-      each = all-pass (λ a. either (hasSize longest4 a) (hasSize longest6 a)) k (all-map Sized (λ a. either (hasSize longest4 a) (hasSize longest6 a) ≡ true) (λ (a : List ℕ) (w : Sized a). w .is) k s);
-      v4 = omega (arith, u, x);
-      v6 = omega (arith, v, y);
-      all = omega (arith, total-length k s, u, v, x, y);
+      each = all-pass (λ a. ofAddress (λ ip port. leb (length a) (longestOf ip)) a) k (all-map Sized (λ a. ofAddress (λ ip port. leb (length a) (longestOf ip)) a ≡ true) (λ (a : List ℕ) (w : Sized a). w .is) k s);
+      v4 = omega (arith, v, y);
+      v6 = none-longer k s;
+      all = omega (arith, total-length k s, x, y);
     }
 
 pub selection-short : (t : Terms) (xs : List (List ℕ)) → Short (t .limits) (selected t xs)

@@ -2,7 +2,7 @@
 use Prim.Native.Nat.{ℕ}
 use mathlib.Core.Bool.{Bool, true, false}
 use mathlib.Core.List.{List, [], _∷_}
-use lib.Dec.{eqb}
+use lib.Dec.{eqb, ltb}
 use lib.ListN.{length}
 use Rattle.prelude.specs.Choice.{both, either}
 use Rattle.address.specs.Multiaddr.{parsed}
@@ -51,5 +51,5 @@ inFamily ip = ofAddress (λ other port. sameFamily ip other)
 abbrev pub hasIp : Ip → List ℕ → Bool
 hasIp ip = ofAddress (λ other port. sameIp ip other)
 
-abbrev pub hasSize : ℕ → List ℕ → Bool
-hasSize n a = eqb (length a) n
+abbrev pub longerThan : ℕ → List ℕ → Bool
+longerThan n a = ltb n (length a)

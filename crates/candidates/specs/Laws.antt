@@ -7,13 +7,12 @@ use Prim.Native.Nat.{ℕ, _<_, _≤_}
 use lib.Dec.{leb}
 use lib.ListN.{length, take}
 use Rattle.prelude.specs.Lists.{count}
-use Rattle.prelude.specs.Choice.{either}
 use Rattle.wire.specs.Lists.{entries, broken, listed}
 use Rattle.address.specs.Multiaddr.{parsed, longest4, longest6}
 use Rattle.address.specs.declared.Ip.{Ip}
 use Rattle.address.specs.declared.Parsed.the-variants.{Address}
-use Rattle.candidates.specs.Entries.{ofAddress, inFamily, hasIp, hasSize}
-use Rattle.candidates.specs.Selection.{usual, mostBytes}
+use Rattle.candidates.specs.Entries.{ofAddress, inFamily, hasIp, longerThan}
+use Rattle.candidates.specs.Selection.{usual, longestOf, mostBytes}
 use Rattle.candidates.specs.declared.Limits.{Limits}
 use Rattle.candidates.specs.declared.Chosen.{Chosen}
 
@@ -46,10 +45,12 @@ DropsOnlyAtLimits l keeps wanted =
     (before after : List (List ℕ)) (a : List ℕ) (ip : Ip) (port : ℕ) → parsed a ≡ Address ip port → wanted before a ≡ true
     → ((rest : List (List ℕ)) × (keeps (before ++ (a ∷ after)) ≡ keeps before ++ (a ∷ rest))) ⊎ LimitMet l (keeps before) ip port
 
+-- each is no longer than its family's longest; so no more of them than a family's limit are longer than an IPv4 address, and none is
+-- longer than an IPv6 one
 pub record Short (l : Limits) (kept : List (List ℕ)) : Type 0 where
-  pub each : AllPass (λ a. either (hasSize longest4 a) (hasSize longest6 a)) kept
-  pub v4 : count (hasSize longest4) kept ≤ l .family
-  pub v6 : count (hasSize longest6) kept ≤ l .family
+  pub each : AllPass (λ a. ofAddress (λ ip port. leb (length a) (longestOf ip)) a) kept
+  pub v4 : count (longerThan longest4) kept ≤ l .family
+  pub v6 : count (longerThan longest6) kept ≡ 0
   pub all : length (listed kept) ≤ mostBytes l
 
 pub record IsListOf (kept : List (List ℕ)) (c : Chosen) : Type 0 where
@@ -62,6 +63,6 @@ pub record UsualNumbers : Type 0 where
   pub family : usual .family ≡ 4
   pub ip : usual .ip ≡ 2
   pub port : usual .port ≡ 1024
-  pub v4 : longest4 ≡ 11
-  pub v6 : longest6 ≡ 23
-  pub bytes : mostBytes usual ≡ 152
+  pub v4 : longest4 ≡ 141
+  pub v6 : longest6 ≡ 153
+  pub bytes : mostBytes usual ≡ 1192

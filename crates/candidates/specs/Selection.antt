@@ -12,6 +12,7 @@ use Rattle.wire.specs.Lists.{broken, listed}
 use Rattle.address.specs.Multiaddr.{longest4, longest6}
 use Rattle.address.specs.Words.{mayBeTarget}
 use Rattle.address.specs.declared.Ip.{Ip}
+use Rattle.address.specs.declared.Ip.the-variants.{V4, V6}
 use Rattle.candidates.specs.Entries.{contains, ofAddress, isAddress, inFamily, hasIp}
 use Rattle.candidates.specs.declared.Limits.{Limits}
 use Rattle.candidates.specs.declared.Terms.{Terms}
@@ -74,6 +75,11 @@ own l xs = bounded l (once (such isAddress xs))
 -- an address stands in a list behind its length of two bytes (section 5)
 abbrev pub entrySize : ℕ → ℕ
 entrySize n = 2 + n
+
+-- the most bytes of an address with an IP
+abbrev pub longestOf : Ip → ℕ
+longestOf (V4 a) = longest4
+longestOf (V6 h l) = longest6
 
 -- the most bytes of an address, and room for a list of as many of them
 abbrev pub longest : ℕ

@@ -361,7 +361,7 @@ pub fn own_is_complete()
     ensures { λ _. ⌜ ((l : Limits) → DropsOnlyAtLimits l (own l) (λ before a. no (contains a before))) ⌝ }
 {}
 
-// Candidates have the size of their family's addresses, keep to its limit, and make a list that is as short as these allow.
+// Candidates are no longer than their family's longest, and make a list that is as short as their family's limit allows.
 pub fn candidates_are_short()
     ensures selected { λ _. ⌜ ((t : Terms) (xs : List (List ℕ)) → Short (t .limits) (selected t xs)) ⌝ }
     ensures own { λ _. ⌜ ((l : Limits) (xs : List (List ℕ)) → Short l (own l xs)) ⌝ }
@@ -373,7 +373,7 @@ pub fn chosen_is_a_list()
     ensures own { λ _. ⌜ ((l : Limits) (xs : List (List ℕ)) → IsListOf (own l xs) (packed (listed (own l xs)))) ⌝ }
 {}
 
-// The usual limits are 8 in all, 4 of a family, 2 of an IP and ports from 1024, and a list under them has at most 152 bytes.
+// The usual limits are 8 in all, 4 of a family, 2 of an IP and ports from 1024, and a list under them has at most 1,192 bytes.
 pub fn usual_numbers()
     ensures { λ _. ⌜ UsualNumbers ⌝ }
 {}

@@ -8,7 +8,8 @@ use native.Mathlib.Omega.{arith}
 use borrow.Author.Tests.{le-leb, lt-leb, ltb-true, ltb-false}
 use lib.Dec.{ltb, leb}
 use lib.ListN.{length, drop, replicate, length-append, length-replicate}
-use Rattle.prelude.specs.Choice.{pick}
+use Rattle.prelude.specs.Lists.{count}
+use Rattle.prelude.specs.Choice.{pick, bit}
 use Rattle.refusal.specs.declared.Refusal.{Refusal}
 use Rattle.refusal.specs.declared.Refusal.the-variants.{BrokenList, MessageTooLong, OutputTooShort}
 use Rattle.wire.specs.Varint.{encoded}
@@ -23,8 +24,9 @@ use Rattle.message.specs.declared.Encoded.{Encoded}
 use Rattle.message.proofs.FieldList.{field-long, fields-more}
 use Rattle.message.proofs.Answers.{message-long}
 use Rattle.address.specs.Multiaddr.{longest4, longest6}
+use Rattle.candidates.specs.Entries.{longerThan}
 use Rattle.candidates.specs.Selection.{usual, most}
-use Rattle.frames.specs.Sent.{frameCapacity, fieldSize, packed, connectFrame, longer}
+use Rattle.frames.specs.Sent.{frameCapacity, fieldSize, packed, connectFrame}
 use Rattle.frames.specs.declared.Framed.{Framed}
 use Rattle.message.specs.declared.Encoded.the-variants as e
 
@@ -81,30 +83,6 @@ module _ (s : List ℕ) where
 
 -- ---- how long CONNECT is
 
-short-field : (a : List ℕ) → length a ≤ longest6 → length (addressField a) ≡ fieldSize (length a)
-short-field a h =
-    let o : length (encoded (length a)) ≡ 1 = ap length (last-one 9 (length a) (omega arith)) in
-    omega (arith, field-long a)
-
-fields-long : (xs : List (List ℕ)) → longer longest6 xs ≡ 0 → length (addressFields xs) ≤ fieldSize longest4 * length xs + (longest6 - longest4) * longer longest4 xs
-unfolding addressFields longer
-fields-long [] h = omega arith
-fields-long (a ∷ xs) h = go (ltb longest6 (length a)) refl (ltb longest4 (length a)) refl h (fields-long xs)
-  where
-    go : (p : Bool) → ltb longest6 (length a) ≡ p → (q : Bool) → ltb longest4 (length a) ≡ q → pick p 1 0 + longer longest6 xs ≡ 0
-        → (longer longest6 xs ≡ 0 → length (addressFields xs) ≤ fieldSize longest4 * length xs + (longest6 - longest4) * longer longest4 xs)
-        → length (addressFields (a ∷ xs)) ≤ fieldSize longest4 * suc (length xs) + (longest6 - longest4) * (pick q 1 0 + longer longest4 xs)
-    go true i q j h r = absurd (omega arith)
-    go false i true j h r =
-        let l = ltb-false longest6 (length a) i in
-        let t = r (omega arith) in
-        omega (arith, fields-more a xs, short-field a l)
-    go false i false j h r =
-        let l = ltb-false longest6 (length a) i in
-        let k = ltb-false longest4 (length a) j in
-        let t = r (omega arith) in
-        omega (arith, fields-more a xs, short-field a l)
-
 small-head : (v : ℕ) → v < 16384 → length (encoded v) ≤ 2
 small-head v h = go (ltb v 128) refl
   where
@@ -116,7 +94,29 @@ small-head v h = go (ltb v 128) refl
         let q = ap length (last-one 8 (v / 128) (omega arith)) in
         omega arith
 
-connect-long : (xs : List (List ℕ)) → length xs ≤ most → longer longest4 xs ≤ usual .family → longer longest6 xs ≡ 0 → length (frameBytes Connect xs) ≤ frameCapacity
+short-field : (a : List ℕ) → length a ≤ longest6 → length (addressField a) ≤ fieldSize (length a)
+short-field a h = omega (arith, field-long a, small-head (length a) (omega arith))
+
+fields-long : (xs : List (List ℕ)) → count (longerThan longest6) xs ≡ 0 → length (addressFields xs) ≤ fieldSize longest4 * length xs + (longest6 - longest4) * count (longerThan longest4) xs
+unfolding addressFields count
+fields-long [] h = omega arith
+fields-long (a ∷ xs) h = go (ltb longest6 (length a)) refl (ltb longest4 (length a)) refl h (fields-long xs)
+  where
+    go : (p : Bool) → ltb longest6 (length a) ≡ p → (q : Bool) → ltb longest4 (length a) ≡ q → bit p + count (longerThan longest6) xs ≡ 0
+        → (count (longerThan longest6) xs ≡ 0 → length (addressFields xs) ≤ fieldSize longest4 * length xs + (longest6 - longest4) * count (longerThan longest4) xs)
+        → length (addressFields (a ∷ xs)) ≤ fieldSize longest4 * suc (length xs) + (longest6 - longest4) * (bit q + count (longerThan longest4) xs)
+    go true i q j h r = absurd (omega arith)
+    go false i true j h r =
+        let l = ltb-false longest6 (length a) i in
+        let t = r (omega arith) in
+        omega (arith, fields-more a xs, short-field a l)
+    go false i false j h r =
+        let l = ltb-false longest6 (length a) i in
+        let k = ltb-false longest4 (length a) j in
+        let t = r (omega arith) in
+        omega (arith, fields-more a xs, short-field a l)
+
+connect-long : (xs : List (List ℕ)) → length xs ≤ most → count (longerThan longest4) xs ≤ usual .family → count (longerThan longest6) xs ≡ 0 → length (frameBytes Connect xs) ≤ frameCapacity
 connect-long xs h i j =
     let t : length (encoded 100) ≡ 1 = ap length (last-one 9 100 (omega arith)) in
     let b = fields-long xs j in
@@ -124,17 +124,17 @@ connect-long xs h i j =
     let s = small-head (length (messageBytes Connect xs)) (omega arith) in
     omega (arith, length-append (encoded (length (messageBytes Connect xs))) (messageBytes Connect xs))
 
-short-all : (xs : List (List ℕ)) → longer longest6 xs ≡ 0 → All (λ a. length a < 65536) xs
-unfolding longer
+short-all : (xs : List (List ℕ)) → count (longerThan longest6) xs ≡ 0 → All (λ a. length a < 65536) xs
+unfolding count
 short-all [] h = tt
 short-all (a ∷ xs) h = go (ltb longest6 (length a)) refl h (short-all xs)
   where
-    go : (p : Bool) → ltb longest6 (length a) ≡ p → pick p 1 0 + longer longest6 xs ≡ 0 → (longer longest6 xs ≡ 0 → All (λ a. length a < 65536) xs) → All (λ a. length a < 65536) (a ∷ xs)
+    go : (p : Bool) → ltb longest6 (length a) ≡ p → bit p + count (longerThan longest6) xs ≡ 0 → (count (longerThan longest6) xs ≡ 0 → All (λ a. length a < 65536) xs) → All (λ a. length a < 65536) (a ∷ xs)
     go true i h r = absurd (omega arith)
     go false i h r = (omega (arith, ltb-false longest6 (length a) i), r (omega arith))
 
 -- the frame of a list of own candidates
-pub connect-listed : (xs : List (List ℕ)) → length xs ≤ most → longer longest4 xs ≤ usual .family → longer longest6 xs ≡ 0
+pub connect-listed : (xs : List (List ℕ)) → length xs ≤ most → count (longerThan longest4) xs ≤ usual .family → count (longerThan longest6) xs ≡ 0
     → (length (frameBytes Connect xs) ≤ frameCapacity) × (connectFrame (listed xs) ≡ packed (frameBytes Connect xs))
 unfolding connectFrame
 connect-listed xs h i j =

@@ -1,11 +1,11 @@
 -- The frames that go out (RULES.md, sections 3 and 4).
 use Prim.Native.Nat.{ℕ, _+_, _-_, _*_}
-use mathlib.Core.List.{List, [], _∷_}
-use lib.ListN.{length, take}
-use lib.Dec.{leb, ltb}
+use mathlib.Core.List.{List, [], _∷_, _++_}
+use lib.ListN.{length, take, replicate}
+use lib.Dec.{leb}
 use Rattle.prelude.specs.Lists.{padded}
 use Rattle.prelude.specs.Choice.{pick}
-use Rattle.wire.specs.Lists.{entries, broken}
+use Rattle.wire.specs.Lists.{entries, broken, listed}
 use Rattle.message.specs.Encoding.{frameBytes}
 use Rattle.message.specs.declared.Kind.the-variants.{Connect, Sync}
 use Rattle.candidates.specs.declared.Chosen.{Chosen}
@@ -14,12 +14,12 @@ use Rattle.candidates.specs.declared.Limits.{Limits}
 use Rattle.candidates.specs.Selection.{usual, held, own}
 use Rattle.frames.specs.declared.Framed.{Framed}
 
--- two bytes of length and the type's field; and a field with its tag and a length of one byte before the address
+-- two bytes of length and the type's field; and a field with its tag and a length of two bytes at most before the address
 abbrev pub headSize : ℕ
 headSize = 4
 
 abbrev pub fieldSize : ℕ → ℕ
-fieldSize n = 2 + n
+fieldSize n = 3 + n
 
 -- the most bytes of a frame that goes out: CONNECT with the usual limit of each family's longest addresses
 abbrev pub frameCapacity : ℕ
@@ -49,7 +49,15 @@ chosenConnect c = connectFrame (take (c .len) (c .bytes))
 unfoldable pub ownConnect : Limits → List ℕ → Framed
 ownConnect l list = pick (broken list) (packed []) (fitted (frameBytes Connect (own (held l) (entries list))))
 
--- how many addresses have more than n bytes
-unfoldable pub longer : ℕ → List (List ℕ) → ℕ
-longer n [] = 0
-longer n (a ∷ xs) = pick (ltb n (length a)) 1 0 + longer n xs
+-- the longest own list: four addresses of each family, each with a name of 127 bytes
+abbrev pub withName : List ℕ → List ℕ
+withName a = a ++ (0xa5 ∷ 0x03 ∷ 127 ∷ replicate 127 0x5a)
+
+abbrev pub own4 : ℕ → List ℕ
+own4 host = withName (0x04 ∷ 198 ∷ 51 ∷ 100 ∷ host ∷ 0x91 ∷ 0x02 ∷ 0x10 ∷ 0xe1 ∷ 0xcd ∷ 0x03 ∷ [])
+
+abbrev pub own6 : ℕ → List ℕ
+own6 host = withName (0x29 ∷ 0x20 ∷ 0x01 ∷ 0x0d ∷ 0xb8 ∷ (replicate 11 0 ++ (host ∷ 0x91 ∷ 0x02 ∷ 0x10 ∷ 0xe1 ∷ 0xcd ∷ 0x03 ∷ [])))
+
+unfoldable pub longestOwn : List ℕ
+longestOwn = listed (own4 1 ∷ own4 2 ∷ own4 3 ∷ own4 4 ∷ own6 1 ∷ own6 2 ∷ own6 3 ∷ own6 4 ∷ [])

@@ -14,9 +14,11 @@ ghost use Rattle.message.specs.Encoding.{frameBytes};
 ghost use Rattle.wire.specs.Frame.{maxFrameSize};
 ghost use Rattle.wire.specs.Lists.{entries, broken, listed};
 ghost use Rattle.address.specs.Multiaddr.{longest4, longest6};
+ghost use Rattle.prelude.specs.Lists.{count};
+ghost use Rattle.candidates.specs.Entries.{longerThan};
 ghost use Rattle.candidates.specs.Selection.{usual, most, held, own};
 ghost use Rattle.candidates.specs.declared.Limits.{Limits};
-ghost use Rattle.frames.specs.Sent.{frameCapacity, packed, connectFrame, syncFrame, longer, chosenConnect, ownConnect};
+ghost use Rattle.frames.specs.Sent.{frameCapacity, packed, connectFrame, syncFrame, chosenConnect, ownConnect, longestOwn};
 ghost use Rattle.frames.specs.Gathering.{gathered, gatheredInto, frameByte};
 
 // ---- Frames that go out
@@ -24,8 +26,8 @@ ghost use Rattle.frames.specs.Gathering.{gathered, gatheredInto, frameBy
 // The frame's length, of two bytes at most, and the type's field.
 const HEAD_SIZE: usize = 4;
 
-// What stands before an address in its field: the tag and a length of one byte.
-const FIELD_HEAD_SIZE: usize = 2;
+// What stands before an address in its field: the tag and a length of two bytes at most.
+const FIELD_HEAD_SIZE: usize = 3;
 
 // The most bytes of a frame that goes out: CONNECT with as many own addresses of each family as it has at most, all the longest.
 pub const FRAME_CAPACITY: usize = HEAD_SIZE
@@ -205,14 +207,19 @@ pub fn gather(input: &[u8], buffer: &mut [u8], count: usize) -> Gathered
 // The framed CONNECT fits, and is never empty, for as many addresses as a list has room for, of which no more than a family's usual
 // limit are longer than the IPv4 ones and none is longer than the IPv6 ones.
 pub fn connect_frame_fits()
-    ensures { λ r. ⌜ ((xs : List (List ℕ)) → length xs ≤ most → longer longest4 xs ≤ usual .family → longer longest6 xs ≡ 0 → (length (frameBytes Kind.Connect xs) ≤ frameCapacity) × (connectFrame (listed xs) ≡ packed (frameBytes Kind.Connect xs))) ⌝ }
+    ensures { λ r. ⌜ ((xs : List (List ℕ)) → length xs ≤ most → count (longerThan longest4) xs ≤ usual .family → count (longerThan longest6) xs ≡ 0 → (length (frameBytes Kind.Connect xs) ≤ frameCapacity) × (connectFrame (listed xs) ≡ packed (frameBytes Kind.Connect xs))) ⌝ }
 {}
 
 // An own list that is not broken has its CONNECT, whole, under all limits that allow no more of a family than the usual ones; it has
-// at most 156 bytes.
+// at most 1,204 bytes.
 pub fn own_connect_fits()
     ensures whole { λ r. ⌜ ((l : Limits) (list : List ℕ) → l .family ≤ usual .family → broken list ≡ false → ownConnect l list ≡ packed (frameBytes Kind.Connect (own (held l) (entries list)))) ⌝ }
-    ensures most { λ r. ⌜ frameCapacity ≡ 156 ⌝ }
+    ensures most { λ r. ⌜ frameCapacity ≡ 1204 ⌝ }
+{}
+
+// An own list whose CONNECT has as many.
+pub fn longest_connect()
+    ensures { λ r. ⌜ ownConnect usual longestOwn .len ≡ frameCapacity ⌝ }
 {}
 
 // A count that gathering hands on stays below the longest frame: a buffer of that length has room for every next byte.

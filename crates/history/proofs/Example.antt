@@ -14,7 +14,7 @@ use Rattle.wire.specs.Lists.{along, listed}
 use Rattle.protobuf.specs.Fields.{fieldOf}
 use Rattle.message.specs.Message.{scan}
 use Rattle.frames.specs.Gathering.{gathering}
-use Rattle.address.specs.Multiaddr.{bigEndian, hasForm, parsed}
+use Rattle.address.specs.Multiaddr.{bigEndian, endsWell, hasForm, parsed}
 use Rattle.address.specs.Words.{globalUnicast4, mayBeTarget}
 use Rattle.candidates.specs.Selection.{selected, own, once, bounded, room}
 use Rattle.ledger.specs.Ledger.{emptyLedger, refusesPunches}
@@ -44,21 +44,21 @@ use Rattle.history.specs.ThreeRounds as three
 use Rattle.history.specs.Example
 
 pub example : each Example.begun calls ≡ expected
-unfolding plus armed mayBegin oneMore begun withExchange ended windowEnd upgradeDue dueAt halfOf startOf upto instants count countTo ahead without timesOf dueOf openedOf schedule.windowOf frameFrom valueOf spanOf varintOf along listed fieldOf scan gathering bigEndian hasForm parsed globalUnicast4 mayBeTarget such selected bounded room emptyLedger refusesPunches silence eventOf resetOf burstOf sendingOf decidedOf quietOf broughtBy inPhase exchangingOf isLive openRound tickPunching inUse checkOf announced connectedOf upAt closing inExchange writeOf firstInput roundTrip punchingOf windowOf openWindow exchangeInput targetsFrom peekedOf opens framedBy connectAfter targetsAfter startedOf begunOf upIn upOf tickIn tickOf hearing inputIn inputOf answerOf newAnswer upAnswer tickAnswer inputAnswer toEach copies stepOf buffer calls each
+unfolding plus armed mayBegin oneMore begun withExchange ended windowEnd upgradeDue dueAt halfOf startOf upto instants count countTo ahead without timesOf dueOf openedOf schedule.windowOf frameFrom valueOf spanOf varintOf along listed fieldOf scan gathering bigEndian endsWell hasForm parsed globalUnicast4 mayBeTarget such selected bounded room emptyLedger refusesPunches silence eventOf resetOf burstOf sendingOf decidedOf quietOf broughtBy inPhase exchangingOf isLive openRound tickPunching inUse checkOf announced connectedOf upAt closing inExchange writeOf firstInput roundTrip punchingOf windowOf openWindow exchangeInput targetsFrom peekedOf opens framedBy connectAfter targetsAfter startedOf begunOf upIn upOf tickIn tickOf hearing inputIn inputOf answerOf newAnswer upAnswer tickAnswer inputAnswer toEach copies stepOf buffer calls each
 example = refl
 
 pub three-rounds : each three.begun three.calls ≡ three.expected
-unfolding plus armed mayBegin oneMore begun withExchange ended windowEnd upgradeDue dueAt halfOf startOf upto instants count countTo ahead without timesOf dueOf openedOf schedule.windowOf frameFrom valueOf spanOf varintOf along listed fieldOf scan gathering bigEndian hasForm parsed globalUnicast4 mayBeTarget such selected bounded room emptyLedger refusesPunches silence eventOf resetOf burstOf sendingOf decidedOf quietOf broughtBy inPhase exchangingOf isLive openRound tickPunching inUse checkOf announced connectedOf upAt closing inExchange writeOf firstInput roundTrip punchingOf windowOf openWindow exchangeInput targetsFrom peekedOf opens framedBy connectAfter targetsAfter startedOf begunOf upIn upOf tickIn tickOf hearing inputIn inputOf answerOf newAnswer upAnswer tickAnswer inputAnswer toEach copies stepOf buffer refusedOf three.calls each
+unfolding plus armed mayBegin oneMore begun withExchange ended windowEnd upgradeDue dueAt halfOf startOf upto instants count countTo ahead without timesOf dueOf openedOf schedule.windowOf frameFrom valueOf spanOf varintOf along listed fieldOf scan gathering bigEndian endsWell hasForm parsed globalUnicast4 mayBeTarget such selected bounded room emptyLedger refusesPunches silence eventOf resetOf burstOf sendingOf decidedOf quietOf broughtBy inPhase exchangingOf isLive openRound tickPunching inUse checkOf announced connectedOf upAt closing inExchange writeOf firstInput roundTrip punchingOf windowOf openWindow exchangeInput targetsFrom peekedOf opens framedBy connectAfter targetsAfter startedOf begunOf upIn upOf tickIn tickOf hearing inputIn inputOf answerOf newAnswer upAnswer tickAnswer inputAnswer toEach copies stepOf buffer refusedOf three.calls each
 three-rounds = refl
 
 pub three-windows : due three.settings (windowsOf source relay circuit three.settings 0 three.calls) ≡ three.all
-unfolding plus armed mayBegin oneMore begun withExchange ended windowEnd upgradeDue dueAt halfOf startOf upto instants count countTo ahead without timesOf dueOf openedOf schedule.windowOf frameFrom valueOf spanOf varintOf along listed fieldOf scan gathering bigEndian hasForm parsed globalUnicast4 mayBeTarget such selected bounded room emptyLedger refusesPunches silence eventOf resetOf burstOf sendingOf decidedOf quietOf broughtBy inPhase exchangingOf isLive openRound tickPunching inUse checkOf announced connectedOf upAt closing inExchange writeOf firstInput roundTrip punchingOf windowOf openWindow exchangeInput targetsFrom peekedOf opens framedBy connectAfter targetsAfter startedOf begunOf upIn upOf tickIn tickOf hearing inputIn inputOf answerOf newAnswer upAnswer tickAnswer inputAnswer toEach copies stepOf buffer refusedOf refusals note notes heard counted due windowsOf three.calls
+unfolding plus armed mayBegin oneMore begun withExchange ended windowEnd upgradeDue dueAt halfOf startOf upto instants count countTo ahead without timesOf dueOf openedOf schedule.windowOf frameFrom valueOf spanOf varintOf along listed fieldOf scan gathering bigEndian endsWell hasForm parsed globalUnicast4 mayBeTarget such selected bounded room emptyLedger refusesPunches silence eventOf resetOf burstOf sendingOf decidedOf quietOf broughtBy inPhase exchangingOf isLive openRound tickPunching inUse checkOf announced connectedOf upAt closing inExchange writeOf firstInput roundTrip punchingOf windowOf openWindow exchangeInput targetsFrom peekedOf opens framedBy connectAfter targetsAfter startedOf begunOf upIn upOf tickIn tickOf hearing inputIn inputOf answerOf newAnswer upAnswer tickAnswer inputAnswer toEach copies stepOf buffer refusedOf refusals note notes heard counted due windowsOf three.calls
 three-windows = refl
 
 pub example-said : saidIs Example.told ≡ sayings
-unfolding plus halfOf startOf upto instants count frameFrom valueOf spanOf varintOf along listed fieldOf scan gathering bigEndian hasForm parsed globalUnicast4 mayBeTarget such selected bounded room emptyLedger refusesPunches heard counted groups addressFields own once buffer calls note tells tellsAll refuses lendsBroken lendsFull saidIs
+unfolding plus halfOf startOf upto instants count frameFrom valueOf spanOf varintOf along listed fieldOf scan gathering bigEndian endsWell hasForm parsed globalUnicast4 mayBeTarget such selected bounded room emptyLedger refusesPunches heard counted groups addressFields own once buffer calls note tells tellsAll refuses lendsBroken lendsFull saidIs
 example-said = refl
 
 pub example-lots : lotsOf Example.told ≡ lots
-unfolding plus halfOf startOf upto instants count frameFrom valueOf spanOf varintOf along listed fieldOf scan gathering bigEndian hasForm parsed globalUnicast4 mayBeTarget such selected bounded room emptyLedger refusesPunches heard counted groups addressFields own once buffer calls note tells tellsAll refuses lendsBroken lendsFull lotsOf
+unfolding plus halfOf startOf upto instants count frameFrom valueOf spanOf varintOf along listed fieldOf scan gathering bigEndian endsWell hasForm parsed globalUnicast4 mayBeTarget such selected bounded room emptyLedger refusesPunches heard counted groups addressFields own once buffer calls note tells tellsAll refuses lendsBroken lendsFull lotsOf
 example-lots = refl

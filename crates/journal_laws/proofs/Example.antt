@@ -20,7 +20,7 @@ use Rattle.message.specs.Message.{scan}
 use Rattle.message.specs.Encoding.{addressFields}
 use Rattle.frames.specs.Gathering.{gathering}
 use Rattle.frames.specs.Sent.{syncFrame, ownConnect}
-use Rattle.address.specs.Multiaddr.{bigEndian, hasForm, parsed}
+use Rattle.address.specs.Multiaddr.{bigEndian, endsWell, hasForm, parsed}
 use Rattle.address.specs.Words.{globalUnicast4, mayBeTarget}
 use Rattle.candidates.specs.Selection.{selected, bounded, room, once, own}
 use Rattle.ledger.specs.Ledger.{emptyLedger, refusesPunches}
@@ -48,7 +48,7 @@ use Rattle.journal_calls.specs.Calls as calls
 use Rattle.journal_turns.specs.Turns as turns
 
 pub example : journalText input ≡ printed
-unfolding plus digitsFrom decimalOf digitsOf isHexadecimal bytesOf hexadecimal begins isWord lengthBefore forms.kindOf forms.split forms.onFirst forms.maybeWords forms.pairWords forms.whichWord forms.wordsOf forms.readFrom forms.readForm text textFrom valueText said armed mayBegin oneMore begun withExchange ended windowEnd upgradeDue dueAt nextDeadline halfOf startOf upto instants count countTo ahead without timesOf dueOf openedOf schedule.windowOf frameFrom valueOf spanOf varintOf groups along listed fieldOf scan addressFields gathering syncFrame ownConnect bigEndian hasForm parsed globalUnicast4 mayBeTarget such selected bounded room once own emptyLedger refusesPunches inPhase exchangingOf punchingOf eventOf silence resetOf burstOf sendingOf decidedOf quietOf inUse checkOf isLive openRound tickPunching announced connectedOf upAt closing inExchange writeOf firstInput roundTrip windowOf openWindow exchangeInput awaitsIn broughtBy targetsFrom peekedOf lengthOf sentAfter ledgerAfter opens connectAfter framedBy targetsAfter begunOf startedOf upIn upOf tickIn tickOf hearing inputIn inputOf bufferAfter line.settingsOf line.lineOf withCommas targetsText effects.linesText effects.noEffect effects.effectsText calls.newJournal turns.counted calls.started calls.noEffects calls.silent calls.effectsOf turns.hostOf calls.startTurn calls.upTurn calls.inputTurn calls.tickTurn turns.turnOf turns.read turns.lineTurn firstOf opened lineText cut linesText opening journalText input
+unfolding plus digitsFrom decimalOf digitsOf isHexadecimal bytesOf hexadecimal begins isWord lengthBefore forms.kindOf forms.split forms.onFirst forms.maybeWords forms.pairWords forms.whichWord forms.wordsOf forms.readFrom forms.readForm text textFrom valueText said armed mayBegin oneMore begun withExchange ended windowEnd upgradeDue dueAt nextDeadline halfOf startOf upto instants count countTo ahead without timesOf dueOf openedOf schedule.windowOf frameFrom valueOf spanOf varintOf groups along listed fieldOf scan addressFields gathering syncFrame ownConnect bigEndian endsWell hasForm parsed globalUnicast4 mayBeTarget such selected bounded room once own emptyLedger refusesPunches inPhase exchangingOf punchingOf eventOf silence resetOf burstOf sendingOf decidedOf quietOf inUse checkOf isLive openRound tickPunching announced connectedOf upAt closing inExchange writeOf firstInput roundTrip windowOf openWindow exchangeInput awaitsIn broughtBy targetsFrom peekedOf lengthOf sentAfter ledgerAfter opens connectAfter framedBy targetsAfter begunOf startedOf upIn upOf tickIn tickOf hearing inputIn inputOf bufferAfter line.settingsOf line.lineOf withCommas targetsText effects.linesText effects.noEffect effects.effectsText calls.newJournal turns.counted calls.started calls.noEffects calls.silent calls.effectsOf turns.hostOf calls.startTurn calls.upTurn calls.inputTurn calls.tickTurn turns.turnOf turns.read turns.lineTurn firstOf opened lineText cut linesText opening journalText input
 example = refl
 
 pub nothing : journalText [] ≡ ascii "n=0 out=refused why=11\n"

@@ -111,11 +111,11 @@ close-short : (n : ℕ) (a : ℕ) → n ≤ maxU64 → a ≤ maxU64 → length (
 unfolding KindsFrom kindOf kindOfValue AllAtMost
 close-short n a h0 h1 = omega (arith, close-room, text-short messageMost closeForm (number n ∷ number a ∷ []) (refl, (refl, tt)) (h0, (h1, tt)))
 
-send-room : roomOf messageMost sendForm ≡ 404
+send-room : roomOf messageMost sendForm ≡ 2500
 unfolding roomFrom kindOf longest split onFirst lengthBefore
 send-room = refl
 
-send-short : (n : ℕ) (a : ℕ) (b : ℕ) (s : List ℕ) → n ≤ maxU64 → a ≤ maxU64 → b ≤ maxU64 → length s ≤ messageMost → length (text sendForm (number n ∷ number a ∷ number b ∷ bytes s ∷ [])) ≤ 404
+send-short : (n : ℕ) (a : ℕ) (b : ℕ) (s : List ℕ) → n ≤ maxU64 → a ≤ maxU64 → b ≤ maxU64 → length s ≤ messageMost → length (text sendForm (number n ∷ number a ∷ number b ∷ bytes s ∷ [])) ≤ 2500
 unfolding KindsFrom kindOf kindOfValue AllAtMost
 send-short n a b s h0 h1 h2 h3 = omega (arith, send-room, text-short messageMost sendForm (number n ∷ number a ∷ number b ∷ bytes s ∷ []) (refl, (refl, (refl, (refl, tt)))) (h0, (h1, (h2, (h3, tt)))))
 

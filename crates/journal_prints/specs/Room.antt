@@ -1,5 +1,5 @@
--- How long an output is at most (RULES.md, section 12.7). Numbers are of 64 bits, a framed message has at most 156 bytes, and a target list
--- at most 200: eight addresses of 23 bytes, each behind its length.
+-- How long an output is at most (RULES.md, section 12.7). Numbers are of 64 bits, a framed message is one that goes out, and a target list one
+-- that was chosen.
 use Prim.Native.Nat.{ℕ, _+_, _*_, _≤_}
 use mathlib.Core.Path.{_≡_}
 use mathlib.Core.List.{List, _++_}
@@ -7,6 +7,8 @@ use lib.ListN.{length, take}
 use Rattle.prelude.specs.Numbers.{maxU64}
 use Rattle.text.specs.Printed.{printed, behind}
 use Rattle.refusal.specs.declared.Refusal.{Refusal}
+use Rattle.candidates.specs.Selection.{capacity}
+use Rattle.frames.specs.Sent.{frameCapacity}
 use Rattle.ids.specs.declared.PeerId.{PeerId}
 use Rattle.ids.specs.declared.ConnectionId.{ConnectionId}
 use Rattle.ids.specs.declared.ConnectId.{ConnectId}
@@ -16,16 +18,19 @@ use Rattle.path.specs.declared.Owner.the-variants.{Attempt}
 use Rattle.path.specs.declared.Attribution.{Attribution}
 use Rattle.journal_prints.specs.Outputs.{noneText, pathText, openText, sendText, resetText, burstText, closeText, upgradeText, attributionText, unattributedText, refusedText}
 
--- a framed message (`FRAME_CAPACITY` of frames), and a target list (`CAPACITY` of candidates)
 abbrev pub messageMost : ℕ
-messageMost = 156
+messageMost = frameCapacity
 
 abbrev pub listMost : ℕ
-listMost = 200
+listMost = capacity
 
--- the longest is a burst: 96 bytes before its targets, two digits for each byte of the list, and the line feed
+-- the bytes of a burst before its targets
+abbrev pub burstHead : ℕ
+burstHead = 96
+
+-- the longest is a burst: two digits for each byte of the list, and the line feed
 abbrev pub room : ℕ
-room = 96 + 2 * listMost + 1
+room = burstHead + 2 * listMost + 1
 
 -- an owner's number is of 64 bits
 abbrev pub OwnerFits : Owner → Type 0

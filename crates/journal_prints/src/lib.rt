@@ -259,7 +259,13 @@ pub fn put_refused(n: u64, refusal: Refusal, out: &mut [u8], at: usize) -> usize
 
 // ---- room
 
-// No output is longer than 497 bytes: a message of at most 156 bytes, a list of at most 200, as eight addresses of 23 take.
+// The bytes of a burst before its targets, with three numbers of 20 digits.
+const BURST_HEAD: usize = 96;
+
+// Room for an output line: the longest is a burst, with two digits for each byte of its list, and a line feed.
+pub const ROOM: usize = BURST_HEAD + 2 * candidates::CAPACITY + 1;
+
+// No output is longer: a message is a frame that goes out, a list is one of targets.
 pub fn outputs_are_short()
     ensures { λ r. ⌜ ((t : List ℕ) → Output t → length t ≤ room) ⌝ }
 {}

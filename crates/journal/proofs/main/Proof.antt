@@ -8,6 +8,18 @@ use borrow.Author.Needs.{needs}
 use Rattle.journal.proofs.main.Statement.{statement}
 use Rattle.journal.proofs.main.Tie as tie
 
+arg-count-requires : tie.Need-arg-count-requires
+arg-count-requires c κs = search needs
+
+slice-aggregate-write-all : tie.Need-slice-aggregate-write-all
+slice-aggregate-write-all c = search needs
+
+write-all-requires : tie.Need-write-all-requires
+write-all-requires c κs = search needs
+
+returns : tie.Need-returns
+returns c = search needs
+
 large-buffer-requires : tie.Need-large-buffer-requires
 large-buffer-requires c κs = search needs
 
@@ -47,8 +59,8 @@ slice-aggregate-finish c = search needs
 finish-requires : tie.Need-finish-requires
 finish-requires c κs = search needs
 
-returns : tie.Need-returns
-returns c = search needs
+returns-2 : tie.Need-returns-2
+returns-2 c = search needs
 
 pub main-spec : {M : Type 1} → statement M
-main-spec = tie.close (tie.spec large-buffer-requires large-buffer-requires-2 blank-requires blank-requires-2 empty-requires empty-requires-2 slice-aggregate-replay slice-aggregate-replay-2 slice-aggregate-replay-3 slice-aggregate-replay-4 replay-requires slice-aggregate-finish finish-requires returns)
+main-spec = tie.close (tie.spec arg-count-requires slice-aggregate-write-all write-all-requires returns large-buffer-requires large-buffer-requires-2 blank-requires blank-requires-2 empty-requires empty-requires-2 slice-aggregate-replay slice-aggregate-replay-2 slice-aggregate-replay-3 slice-aggregate-replay-4 replay-requires slice-aggregate-finish finish-requires returns-2)

@@ -2,7 +2,7 @@
 use mathlib.Core.Path.{refl}
 use Rattle.prelude.specs.Lists.{count, such}
 use Rattle.wire.specs.Frame.{frameFrom}
-use Rattle.address.specs.Multiaddr.{bigEndian, hasForm, parsed}
+use Rattle.address.specs.Multiaddr.{bigEndian, endsWell, hasForm, parsed}
 use Rattle.address.specs.Words.{globalUnicast4, mayBeTarget}
 use Rattle.candidates.specs.Selection.{room, bounded, selected}
 use Rattle.time.specs.Time.{plus}
@@ -12,7 +12,7 @@ use Rattle.worked_examples.proofs.worked_examples.Statement.{statement}
 use Rattle.worked_examples.proofs.worked_examples.Tie as tie
 
 returns : tie.Need-returns
-unfolding selected bounded such count room parsed hasForm bigEndian mayBeTarget globalUnicast4 plus halfOf startOf upto instants countTo ahead without timesOf dueOf frameFrom
+unfolding selected bounded such count room parsed endsWell hasForm bigEndian mayBeTarget globalUnicast4 plus halfOf startOf upto instants countTo ahead without timesOf dueOf frameFrom
 returns c =
     record {
       anycast = refl;

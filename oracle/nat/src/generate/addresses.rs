@@ -90,6 +90,24 @@ fn with_port(mut address: Vec<u8>, port: u16) -> Vec<u8> {
     address
 }
 
+/// An address with a peer name behind it.
+pub fn named(mut address: Vec<u8>, name: &[u8]) -> Vec<u8> {
+    address.extend_from_slice(&[0xa5, 0x03, name.len() as u8]);
+    address.extend_from_slice(name);
+    address
+}
+
+/// The same with a name of few lengths and few different bytes, so that one
+/// address comes under several names.
+fn perhaps_named(rng: &mut Rng, address: Vec<u8>) -> Vec<u8> {
+    if rng.one_in(2) {
+        return address;
+    }
+    let len = rng.pick(&[1, 2, 34, 38, 126, 127, 127, 0, 128]);
+    let byte = rng.pick(&[0x12, 0xa5, 0xff]);
+    named(address, &vec![byte; len])
+}
+
 fn port(rng: &mut Rng) -> u16 {
     match rng.below(8) {
         0 => rng.pick(&[0, 1, 1023, 1024, 1025, 65535]),
@@ -101,11 +119,12 @@ fn port(rng: &mut Rng) -> u16 {
 /// An address that usually passes, from few IPs so that the limits are met.
 fn common(rng: &mut Rng) -> Vec<u8> {
     let port = port(rng);
-    if rng.one_in(2) {
+    let address = if rng.one_in(2) {
         v4(0x0808_0800 + rng.below(5) as u32, port)
     } else {
         v6((0x2600 << 112) + u128::from(rng.below(5)), port)
-    }
+    };
+    perhaps_named(rng, address)
 }
 
 fn edge(rng: &mut Rng) -> Vec<u8> {

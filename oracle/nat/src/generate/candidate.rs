@@ -1,6 +1,6 @@
 //! Candidates: every edge of every range, and lists that meet each limit.
 
-use super::addresses::{self, v4, v4_edges, v6, v6_edges};
+use super::addresses::{self, named as with_name, v4, v4_edges, v6, v6_edges};
 use super::rng::Rng;
 use crate::text::{hex, list};
 
@@ -69,6 +69,36 @@ fn forms() -> Vec<Vec<u8>> {
             changed[at] = byte;
             out.push(changed);
         }
+        out.extend(names(address));
+    }
+    out
+}
+
+/// An address with a peer name, whole, cut at every byte that matters, of
+/// every length around a limit, and with bytes behind it.
+fn names(address: &[u8]) -> Vec<Vec<u8>> {
+    let ends: &[&[u8]] = &[
+        &[0xa5],
+        &[0xa5, 0x03],
+        &[0xa5, 0x03, 0x00],
+        &[0xa5, 0x03, 0x01],
+        &[0xa5, 0x03, 0x02, 0x07],
+        &[0xa5, 0x03, 0x81, 0x00, 0x07],
+        &[0xa5, 0x03, 0x01, 0x07, 0x07],
+        &[0xa5, 0x03, 0x01, 0x07, 0xa5, 0x03, 0x01, 0x07],
+        &[0xa4, 0x03, 0x01, 0x07],
+        &[0xa5, 0x02, 0x01, 0x07],
+        &[0xa5, 0x83, 0x00, 0x01, 0x07],
+        &[0x01, 0x07],
+    ];
+    let mut out: Vec<Vec<u8>> = (ends.iter())
+        .map(|end| [address, end].concat())
+        .collect();
+    for len in [1, 2, 126, 127, 128, 255] {
+        let whole = with_name(address.to_vec(), &vec![0x5a; len]);
+        out.push(whole[..whole.len() - 1].to_vec());
+        out.push([&whole[..], &[0]].concat());
+        out.push(whole);
     }
     out
 }
@@ -112,6 +142,21 @@ fn limits() -> Vec<Vec<Vec<u8>>> {
             v4(0xffff_ffff, 4001),
         ],
         vec![vec![], four(1, 4001), vec![0xff; 40], six(1, 4001)],
+        (0..3).map(|n| with_name(four(1, 4001), &[n])).collect(),
+        vec![
+            with_name(four(1, 4001), &[7]),
+            four(1, 4001),
+            with_name(four(1, 4001), &[7]),
+            with_name(four(1, 4001), &[8]),
+            with_name(four(1, 4002), &[7]),
+        ],
+        (0..6)
+            .flat_map(|n| [four(n, 4001), six(n.into(), 4001)])
+            .map(|address| with_name(address, &[0x5a; 127]))
+            .collect(),
+        (0..3)
+            .flat_map(|n| [six(1, 4001 + n), with_name(six(1, 4001 + n), &[n as u8])])
+            .collect(),
         (0..9)
             .map(|n| four(n, 1023))
             .chain((0..9).map(|n| four(n, 1024)))

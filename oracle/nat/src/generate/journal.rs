@@ -191,8 +191,7 @@ impl Maker {
             Some((_, stream)) if !self.run.circuit.asked() => self.input(stream, "ready", &[]),
             Some((conn, stream)) => {
                 if self.rng.one_in(4) {
-                    let at = self.clock;
-                    self.say(format!("do=wrote at={at} conn={conn} stream={stream}"));
+                    self.wrote(conn, stream);
                 } else {
                     self.piece(stream);
                 }
@@ -382,20 +381,18 @@ impl Maker {
                 7 | 8 => {
                     let other = conn.wrapping_add(1);
                     let conn = self.rng.pick(&[conn, conn, other]);
-                    self.say(format!(
-                        "do=wrote at={} conn={conn} stream={stream}",
-                        self.clock
-                    ));
+                    self.wrote(conn, stream);
                 }
                 9 => self.closing(stream),
                 10 => self.tick(),
                 _ => self.input(stream, "ready", &[]),
             },
-            Some((_, stream)) => match self.rng.below(10) {
+            Some((conn, stream)) => match self.rng.below(11) {
                 0..6 => self.input(stream, "ready", &[]),
                 6 => self.piece(stream),
                 7 => self.closing(stream),
                 8 => self.tick(),
+                9 => self.wrote(conn, stream),
                 _ => self.input(stream, "data", &[]),
             },
             None if self.run.circuit.over() => match self.rng.below(4) {
@@ -522,6 +519,11 @@ impl Maker {
         ));
     }
 
+    fn wrote(&mut self, conn: u64, stream: u64) {
+        let at = self.clock;
+        self.say(format!("do=wrote at={at} conn={conn} stream={stream}"));
+    }
+
     fn tick(&mut self) {
         let (at, answers) = (self.clock, self.answers(false));
         self.say(format!("do=tick at={at} {answers}"));
@@ -618,7 +620,7 @@ impl Maker {
             3 => self.tick(),
             4 => {
                 let (conn, stream) = (self.named(), self.named());
-                self.say(format!("do=wrote at={at} conn={conn} stream={stream}"));
+                self.wrote(conn, stream);
             }
             5 if self.rng.one_in(2) => {
                 let (peer, conn) = (self.named(), self.named());

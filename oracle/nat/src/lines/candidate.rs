@@ -40,7 +40,8 @@ fn eligible(bytes: &[u8], private: bool) -> &'static str {
         return "none";
     }
     let mut bytes = bytes.to_vec();
-    let port = bytes.len() - 4;
+    // Behind the family's code, the IP, and udp.
+    let port = if bytes[0] == 0x04 { 7 } else { 19 };
     bytes[port..port + 2].copy_from_slice(&4001u16.to_be_bytes());
     let address = Multiaddr::from_bytes(&bytes).expect("only the port changed");
     match select_punch_candidates(&[address], private).len() {
