@@ -1,1 +1,4 @@
 pub mod Answering
+pub mod Stepping
+pub mod Running
+pub mod Replaying

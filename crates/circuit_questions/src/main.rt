@@ -1,14 +1,23 @@
 // Replays the journal on standard input and prints after each line what the circuit then answers to the questions of docs/RULES.md,
 // section 11.9, asked about the connection of its own number, and whether the line's call took a connection. README.md has the lines.
 ghost use mathlib.Core.Path.{_≡_};
+ghost use mathlib.Core.Bool.{true, false};
 ghost use Prim.Native.Nat.{_≤_};
-ghost use lib.ListN.{length};
+ghost use lib.ListN.{length, replicate};
 ghost use Rattle.prelude.specs.Choice.{bit};
+ghost use Rattle.rows.specs.Words.{ledgerWords};
 ghost use Rattle.text.specs.Printed.{printed, behind};
-ghost use Rattle.ledger.specs.Ledger.{tablesOf};
+ghost use Rattle.lines.specs.Lines.{longest};
+ghost use Rattle.line_program.specs.Reads.{left, NextLine};
+ghost use Rattle.line_program.specs.Waits.{isLine};
+ghost use Rattle.ledger.specs.Ledger.{tablesOf, emptyLedger};
+ghost use Rattle.carried.specs.Carried.{noFrame, noAims};
 ghost use Rattle.journal_calls.specs.Calls.{whole};
+ghost use Rattle.journal_calls.specs.declared.State.{State as Numbers};
 ghost use Rattle.journal_turns.specs.Turns.{lineTurn};
 ghost use Rattle.circuit_questions.specs.Answers.{isClaim, answersOf, deadlineWords, answersText, lineText};
+ghost use Rattle.circuit_questions.specs.Steps.{state, stepOf};
+ghost use Rattle.circuit_questions.specs.Runs.{Ran, Replayed};
 use circuit::state::Core;
 use frames::FrameBytes;
 use journal_calls::State;
@@ -143,14 +152,16 @@ fn answer_line(
 
 // ---- the program
 
-// Where the input stands behind a line, and the journal.
+// Where the input stands behind a line, the journal, how many bytes of the buffer were handed over last, and whether they were written.
 pub struct Step {
     pub reading: Reading,
     pub state: State,
+    pub handed: usize,
+    pub written: bool,
 }
 
-// Answers the next line; the reading goes on where there was one, and its answer was written.
-fn answer_next(
+// Reads the next line, answers it and writes its answer.
+fn take_step(
     block: &mut [u8],
     line: &mut [u8],
     connect: &mut FrameBytes,
@@ -159,41 +170,56 @@ fn answer_next(
     ledger: &mut Ledger,
     reply: &mut [u8],
     out: &mut [u8],
-    before: Step,
+    from: usize,
+    until: usize,
+    j: State,
+    handed: usize,
 ) -> Step
-    ensures { λ r. ⌜ r .reading .until ≤ length (now (block .entry)) ⌝ }
+    ensures made { λ r. ⌜ state (whole (r .state) (now (connect .exit)) (now (targets .exit)) (tablesOf (now (ledger .exit))) (now (ledger .exit)) (now (sent .exit))) (now (reply .exit)) (now (out .exit)) (r .handed) ≡ stepOf (r .reading) (now (line .exit)) (state (whole j (now (connect .entry)) (now (targets .entry)) (tablesOf (now (ledger .entry))) (now (ledger .entry)) (now (sent .entry))) (now (reply .entry)) (now (out .entry)) handed) ⌝ }
+    ensures written { λ r. ⌜ (isLine (r .reading .failed) (r .reading .ended) (r .reading .used) ≡ false → r .written ≡ true) ⌝ }
+    ensures read { λ r. ⌜ NextLine (now (line .entry)) (left (now (block .entry)) from until) (now (block .exit)) (now (line .exit)) (r .reading) ⌝ }
 {
-    let j = before.state;
-    let mut s = line_program::next_line(block, line, before.reading.from, before.reading.until);
-    if !s.ended && s.used == 0 {
+    let s = line_program::next_line(block, line, from, until);
+    if line_program::is_line(s.failed, s.ended, s.used) {
+        let used = s.used;
+        let a = answer_line(
+            j,
+            connect,
+            targets,
+            sent,
+            ledger,
+            reply,
+            &line[..used],
+            s.ended,
+            out,
+        );
+        let next = a.state;
+        let written = line_program::print(out, a.end);
         return Step {
             reading: s,
-            state: j,
+            state: next,
+            handed: a.end,
+            written: written,
         };
-    }
-    let used = s.used;
-    let a = answer_line(
-        j,
-        connect,
-        targets,
-        sent,
-        ledger,
-        reply,
-        &line[..used],
-        s.ended,
-        out,
-    );
-    let next = a.state;
-    if !line_program::print(out, a.end) {
-        s.more = false;
     }
     Step {
         reading: s,
-        state: next,
+        state: j,
+        handed: handed,
+        written: true,
     }
 }
 
-// Goes through the lines behind the first. A proved loop has to end, so it counts its turns down from a number that no run uses up.
+// Where the input stood as the program stopped, how many bytes of the buffer were handed over last, and whether they were written.
+pub struct Ending {
+    pub reading: Reading,
+    pub handed: usize,
+    pub written: bool,
+}
+
+// Goes through the lines behind the first, up to one that no line feed ended or whose answer cannot be written. One step stands before the
+// loop, so that the loop carries what a step leaves and no more. A proved loop has to end, so it counts its turns down from a number that no
+// run uses up.
 fn run(
     block: &mut [u8],
     line: &mut [u8],
@@ -203,15 +229,50 @@ fn run(
     ledger: &mut Ledger,
     reply: &mut [u8],
     out: &mut [u8],
-    first: Step,
-)
-    ensures { λ _. ⌜ length (now (out .exit)) ≡ length (now (out .entry)) ⌝ }
+    first: Reading,
+    opened: State,
+) -> Ending
+    requires { ⌜ longest ≤ length (now line) ⌝ }
+    ensures { λ r. ⌜ Ran (state (whole opened (now (connect .entry)) (now (targets .entry)) (tablesOf (now (ledger .entry))) (now (ledger .entry)) (now (sent .entry))) (now (reply .entry)) (now (out .entry)) 0) (left (now (block .entry)) (first .from) (first .until)) (now (block .exit)) (λ (s : Numbers). whole s (now (connect .exit)) (now (targets .exit)) (tablesOf (now (ledger .exit))) (now (ledger .exit)) (now (sent .exit))) (now (reply .exit)) (now (out .exit)) r ⌝ }
 {
-    let mut s = first;
+    let mut s = take_step(
+        block,
+        line,
+        connect,
+        targets,
+        sent,
+        ledger,
+        reply,
+        out,
+        first.from,
+        first.until,
+        opened,
+        0,
+    );
     let mut turns = u64::MAX;
-    while 0 < turns && s.reading.more {
-        s = answer_next(block, line, connect, targets, sent, ledger, reply, out, s);
+    while 0 < turns && s.reading.ended && s.written {
+        let state = s.state;
+        s = take_step(
+            block,
+            line,
+            connect,
+            targets,
+            sent,
+            ledger,
+            reply,
+            out,
+            s.reading.from,
+            s.reading.until,
+            state,
+            s.handed,
+        );
         turns -= 1;
+    }
+    let reading = s.reading;
+    Ending {
+        reading: reading,
+        handed: s.handed,
+        written: s.written,
     }
 }
 
@@ -225,19 +286,23 @@ fn replay(
     ledger: &mut Ledger,
     reply: &mut [u8],
     out: &mut [u8],
-)
-    ensures { λ _. ⌜ length (now (out .exit)) ≡ length (now (out .entry)) ⌝ }
+) -> Ending
+    requires { ⌜ (longest ≤ length (now line)) × (now connect ≡ noFrame) × (now targets ≡ noAims) × (now sent ≡ noFrame) × (now ledger ≡ replicate ledgerWords 0) × (tablesOf (now ledger) ≡ emptyLedger) ⌝ }
+    ensures { λ r. ⌜ Replayed (now (reply .entry)) (now (out .entry)) (now (block .exit)) (λ (s : Numbers). whole s (now (connect .exit)) (now (targets .exit)) (tablesOf (now (ledger .exit))) (now (ledger .exit)) (now (sent .exit))) (now (reply .exit)) (now (out .exit)) r ⌝ }
 {
     let s = line_program::next_line(block, line, 0, 0);
+    if s.failed {
+        return Ending {
+            reading: s,
+            handed: 0,
+            written: true,
+        };
+    }
     let used = s.used;
     let o = journal_text::open_journal(&line[..used], s.ended, out, 0);
     if o.good {
         let opened = o.state;
-        let first = Step {
-            reading: s,
-            state: opened,
-        };
-        run(
+        return run(
             block,
             line,
             connect,
@@ -246,11 +311,16 @@ fn replay(
             ledger,
             reply,
             out,
-            first,
+            s,
+            opened,
         );
-        return;
     }
-    line_program::print(out, o.next);
+    let written = line_program::print(out, o.next);
+    Ending {
+        reading: s,
+        handed: o.next,
+        written: written,
+    }
 }
 
 fn main() {
