@@ -3,28 +3,18 @@
 use Prim.Native.Nat.{ℕ, _<_}
 use mathlib.Core.Path.{_≡_}
 use mathlib.Core.Bool.{Bool, true, false}
-use mathlib.Core.List.{List, [], _∷_, _++_}
+use mathlib.Core.List.{List, [], _++_}
 use lib.Dec.{eqb}
 use lib.ListN.{length}
 use Rattle.prelude.specs.Choice.{pick, both}
 use Rattle.text.specs.Printed.{printed, behind}
-use Rattle.line_program.specs.Reads.{left, feed}
-use Rattle.journal_lines.specs.declared.First.{First}
+use Rattle.line_program.specs.Reads.{left}
 use Rattle.journal_calls.specs.Calls.{Journal}
 use Rattle.journal_calls.specs.declared.State.{State as Numbers}
-use Rattle.journal_text.specs.Texts.{firstOf, isGood, opened, openingText}
-use Rattle.journal_text.specs.Journals.{linesOf}
+use Rattle.journal_text.specs.Texts.{isGood, opened, openingText}
+use Rattle.journal_text.specs.Journals.{linesOf, bytesOf, endless, firstIn, behindFirst, unread}
 use Rattle.circuit_questions.specs.declared.Ending.{Ending}
 use Rattle.circuit_questions.specs.Steps.{State, state, taken}
-
--- the bytes of lines, each with its line feed where it has one
-unfoldable pub bytesOf : List (List ℕ × Bool) → List ℕ
-bytesOf [] = []
-bytesOf (l ∷ rest) = (l .0 ++ feed (l .1)) ++ bytesOf rest
-
--- 2^63 − 1: no run takes so many bytes
-abbrev pub endless : ℕ
-endless = 9223372036854775807
 
 -- ---- the lines behind the first
 
@@ -47,20 +37,6 @@ pub record Ran (before : State) (had block : List ℕ) (lent : Numbers → Journ
   pub unwritten : lines ≡ [] → e .written ≡ true
 
 -- ---- the whole input
-
--- what the first line says; an input without a line has no good one
-abbrev pub firstIn : List (List ℕ × Bool) → First
-firstIn [] = firstOf [] false
-firstIn (first ∷ rest) = firstOf (first .0) (first .1)
-
-abbrev pub behindFirst : List (List ℕ × Bool) → List (List ℕ × Bool)
-behindFirst [] = []
-behindFirst (first ∷ rest) = rest
-
--- whether reading failed before the first line was there
-abbrev pub unread : Bool → List (List ℕ × Bool) → Bool
-unread failed [] = failed
-unread failed (first ∷ rest) = false
 
 -- behind a good first line the others are taken; another prints what it is refused with (section 12.4); before it nothing is printed
 unfoldable pub replayed : Bool → List ℕ → List ℕ → List (List ℕ × Bool) → State

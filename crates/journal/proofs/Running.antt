@@ -5,29 +5,23 @@ use mathlib.Core.Bool.{Bool, true, false}
 use Prim.Native.Nat.{ℕ, _+_, _*_, _<_, _≤_}
 use native.Mathlib.Omega.{arith}
 use lib.Dec.{ltb}
-use lib.ListN.{length, take, length-append, length-take}
-use borrow.Author.Tests.{ltb-true, ltb-false}
+use lib.ListN.{length, take, length-append}
 use Rattle.prelude.specs.Numbers.{maxU64}
 use Rattle.text.specs.Printed.{printed, behind}
-use Rattle.text.proofs.Printing.{length-kept, fits, fits-place, full-place}
 use Rattle.line_program.specs.declared.Reading.{Reading}
-use Rattle.line_program.specs.Reads.{left, hasLine, feed, Read, NextLine}
+use Rattle.line_program.specs.Reads.{left, hasLine, feed, NextLine}
 use Rattle.journal_prints.specs.Room.{room}
 use Rattle.lines.specs.Lines.{longest}
 use Rattle.journal_calls.specs.Calls.{Journal, Taken}
-use Rattle.journal_turns.specs.Turns.{lineTurn}
 use Rattle.journal_calls.specs.declared.State.{State as Numbers}
 use Rattle.journal_text.specs.Texts.{turnText, lineText}
-use Rattle.journal_text.specs.Journals.{cut, linesOf, linesText}
-use Rattle.journal_text.proofs.Cutting.{lines as law, long-same}
+use Rattle.journal_text.specs.Journals.{linesOf, bytesOf, linesText, endless}
+use Rattle.journal_text.proofs.Inputs.{Line, same-line, some, at-end, there, Ended, none-ended, all-cut, more-long, more-whole, left-whole, more-ended, last-cut, last-dry}
 use Rattle.line_program.proofs.GoingOn.{apart, had-none}
 use Rattle.journal.specs.declared.Step.{Step}
 use Rattle.line_program.specs.Waits.{isLine, waitingAfter, handedAfter}
 use Rattle.journal.specs.Steps.{State, state, answered, taking, taken, stepOf, stepText, put}
-use Rattle.journal.specs.Runs.{bytesOf, endless, Ran}
-
-abbrev pub Line : Type 0
-Line = List ℕ × Bool
+use Rattle.journal.specs.Runs.{Ran}
 
 -- ---- one line more
 
@@ -38,13 +32,6 @@ taken-more s [] [] l f e = refl
 taken-more s [] (g ∷ fs) l f e = absurd (omega arith)
 taken-more s (x ∷ xs) [] l f e = absurd (omega arith)
 taken-more s (x ∷ xs) (g ∷ fs) l f e = taken-more (taking s x g) xs fs l f (omega arith)
-
-bytes-more : (xs : List Line) (l : Line) → bytesOf (xs ++ (l ∷ [])) ≡ bytesOf xs ++ (l .0 ++ feed (l .1))
-unfolding bytesOf
-bytes-more [] l = append-nil (l .0 ++ feed (l .1))
-bytes-more (x ∷ xs) l =
-    ap (λ (r : List ℕ). (x .0 ++ feed (x .1)) ++ r) (bytes-more xs l)
-    ∙ sym (append-assoc (x .0 ++ feed (x .1)) (bytesOf xs) (l .0 ++ feed (l .1)))
 
 text-more : (s : State) (xs : List Line) (fs : List Bool) (l : Line)
     → linesText (s .journal) (s .reply) (xs ++ (l ∷ []))
@@ -85,7 +72,7 @@ pub record Open (before : State) (had rest : List ℕ) (j : Journal) (reply out 
   pub whole : had ++ brought ≡ bytesOf lines ++ rest
   pub stood : state j reply out w handed ≡ taken before lines follow
   pub text : put (state j reply out w handed) ≡ linesText (before .journal) (before .reply) lines
-  pub ended : (r : List ℕ) → linesOf (bytesOf lines ++ r) ≡ lines ++ linesOf r
+  pub ended : Ended lines
   pub given : v ≡ false → handed ≡ [] → ⊥
   pub live : hasLine rest ≡ false → w ≡ 0
   pub counted : maxU64 ≤ turns + length (bytesOf lines)
@@ -102,82 +89,19 @@ pub record Closed (before : State) (had rest : List ℕ) (j : Journal) (reply ou
   pub stood : state j reply out w handed ≡ taken before lines follow
   pub text : put (state j reply out w handed) ≡ linesText (before .journal) (before .reply) lines
   pub cutting : linesOf (bytesOf lines) ≡ lines
-  pub dry : r .more ≡ false → r .failed ≡ false → unfinished ++ rest ≡ []
+  pub dry : r .failed ≡ false → length (bytesOf lines) < endless → (r .more ≡ false) × (unfinished ++ rest ≡ [])
   pub given : v ≡ false → handed ≡ [] → ⊥
   pub live : hasLine rest ≡ false → w ≡ 0
-  pub long : r .more ≡ true → endless ≤ length (bytesOf lines)
 
 pub record Going (before : State) (had block : List ℕ) (j′ : Journal) (reply out : List ℕ) (s : Step) (turns : ℕ) : Type 0 where
   pub goes : s .reading .ended ≡ true → Open before had (left block (s .reading .from) (s .reading .until)) j′ reply out (s .waiting) (s .written) turns
   pub stops : s .reading .ended ≡ false
       → Closed before had (left block (s .reading .from) (s .reading .until)) j′ reply out (s .waiting) (s .written) (s .reading)
 
-open-cut : {before : State} {had rest : List ℕ} {j : Journal} {reply out : List ℕ} {w : ℕ} {v : Bool} {turns : ℕ} (o : Open before had rest j reply out w v turns)
-    → linesOf (bytesOf (o .lines)) ≡ o .lines
-unfolding cut
-open-cut o = ap linesOf (sym (append-nil (bytesOf (o .lines)))) ∙ o .ended [] ∙ append-nil (o .lines)
-
 pub begin : (j : Journal) (reply out had : List ℕ) (turns : ℕ) → maxU64 ≤ turns → Open (state j reply out 0 []) had had j reply out 0 true turns
 unfolding bytesOf taken linesText
 begin j reply out had turns h =
-    record { brought = []; lines = []; follow = []; told = refl; handed = []; whole = append-nil had; stood = refl; text = refl; ended = λ r. refl; given = λ f _. apart f; live = λ _. refl; counted = omega arith }
-
--- ---- a line's buffer says what the line does
-
-pub none : (b : List ℕ) → length b ≡ 0 → b ≡ []
-none [] h = refl
-none (a ∷ b) h = absurd (omega arith)
-
-module _ {line had block after : List ℕ} {r : Reading} (x : NextLine line had block after r) (h : longest ≤ length line) where
-  -- what says the same of any two lines that are too long says the same of the text and of what the buffer has of it
-  pub by-buffer : {A : Type 0} (f : List ℕ → A) → ((a b : List ℕ) → longest ≤ length a → longest ≤ length b → f a ≡ f b)
-      → f (take (r .used) after) ≡ f (x .read .text)
-  by-buffer f same = go (ltb (length line) (length (x .read .text))) refl
-    where
-      kept : length after ≡ length line
-      kept = length-kept {q = r .used} (record { bytes = x .read .bytes; place = x .read .place })
-
-      go : (t : Bool) → ltb (length line) (length (x .read .text)) ≡ t → f (take (r .used) after) ≡ f (x .read .text)
-      go true e =
-          let l : length line < length (x .read .text) = ltb-true _ _ e in
-          let u : r .used ≡ length line = x .read .place ∙ full-place line (x .read .text) (omega arith) in
-          same (take (r .used) after) (x .read .text) (omega (arith, kept, length-take (r .used) after)) (omega arith)
-      go false e =
-          let l : length (x .read .text) ≤ length line = ltb-false _ _ e in
-          rw (x .read .bytes, x .read .place, fits line (x .read .text) l)
-
-  same-line : (j : Journal) (reply : List ℕ) → lineTurn j reply (take (r .used) after) (r .ended) ≡ lineTurn j reply (x .read .text) (r .ended)
-  same-line j reply =
-      by-buffer (λ (t : List ℕ). lineTurn j reply t (r .ended))
-      (λ (a b : List ℕ) (h : longest ≤ length a) (k : longest ≤ length b). long-same j reply a b (r .ended) h k)
-
-  -- a text without a byte leaves none in the buffer
-  pub empty : ltb 0 (r .used) ≡ false → length (x .read .text) ≡ 0
-  empty e = go (ltb (length line) (length (x .read .text))) refl
-    where
-      u : r .used ≤ 0
-      u = ltb-false 0 (r .used) e
-
-      go : (t : Bool) → ltb (length line) (length (x .read .text)) ≡ t → length (x .read .text) ≡ 0
-      go true e =
-          let l : length line < length (x .read .text) = ltb-true _ _ e in
-          absurd (omega (arith, u, x .read .place ∙ full-place line (x .read .text) (omega arith)))
-      go false e =
-          let l : length (x .read .text) ≤ length line = ltb-false _ _ e in
-          omega (arith, u, x .read .place ∙ fits-place line (x .read .text) l)
-
-  -- a byte in the buffer is the text's
-  pub some : ltb 0 (r .used) ≡ true → 0 < length (x .read .text)
-  some e = go (ltb (length line) (length (x .read .text))) refl
-    where
-      u : 0 < r .used
-      u = ltb-true 0 (r .used) e
-
-      go : (t : Bool) → ltb (length line) (length (x .read .text)) ≡ t → 0 < length (x .read .text)
-      go true e = let l : length line < length (x .read .text) = ltb-true _ _ e in omega arith
-      go false e =
-          let l : length (x .read .text) ≤ length line = ltb-false _ _ e in
-          omega (arith, u, x .read .place ∙ fits-place line (x .read .text) l)
+    record { brought = []; lines = []; follow = []; told = refl; handed = []; whole = append-nil had; stood = refl; text = refl; ended = none-ended; given = λ f _. apart f; live = λ _. refl; counted = omega arith }
 
 -- ---- a step
 
@@ -196,23 +120,16 @@ Stepping mid line reply out j w block′ line′ j′ reply′ out′ s =
 module _ {before : State} {had mid line reply out : List ℕ} {j : Journal} {w : ℕ} {v : Bool} {turns : ℕ}
     (o : Open before had mid j reply out w v turns) (hl : longest ≤ length line) (ho : w + 4 * room ≤ length out)
     (s : Step) {block′ line′ : List ℕ} {j′ : Journal} {reply′ out′ : List ℕ} (k : Stepping mid line reply out j w block′ line′ j′ reply′ out′ s) where
-  abbrev read : Read line 0 mid block′ line′ (s .reading)
-  read = k .1 .1 .1 .1 .1 .1 .read
+  abbrev x : NextLine line mid block′ line′ (s .reading)
+  x = k .1 .1 .1 .1 .1 .1
 
   abbrev rest : List ℕ
   rest = left block′ (s .reading .from) (s .reading .until)
 
-  grown : had ++ (o .brought ++ read .brought) ≡ bytesOf (o .lines) ++ (read .text ++ (feed (s .reading .ended) ++ rest))
-  grown =
-      sym (append-assoc had (o .brought) (read .brought))
-      ∙ ap (λ (b : List ℕ). b ++ read .brought) (o .whole)
-      ∙ append-assoc (bytesOf (o .lines)) mid (read .brought)
-      ∙ ap (λ (b : List ℕ). bytesOf (o .lines) ++ b) (read .whole)
-
   -- where there is a line it is taken
   module _ (e : isLine (s .reading .failed) (s .reading .ended) (s .reading .used) ≡ true) where
     abbrev l : Line
-    l = (read .text, s .reading .ended)
+    l = (x .read .text, s .reading .ended)
 
     -- what is handed over behind it
     abbrev gives : List ℕ
@@ -231,11 +148,11 @@ module _ {before : State} {had mid line reply out : List ℕ} {j : Journal} {w :
 
     stepped : stepOf (s .reading) block′ line′ j reply out w ≡ taking (state j reply out w []) l (hasLine rest)
     unfolding stepOf taking lineText
-    stepped = rw e (ap by-turn (same-line (k .1 .1 .1 .1 .1 .1) hl j reply))
+    stepped = rw e (ap by-turn (same-line x hl j reply))
 
     printing : stepText (s .reading) line′ j reply ≡ lineText j reply (l .0) (l .1)
     unfolding stepText lineText
-    printing = rw (e, same-line (k .1 .1 .1 .1 .1 .1) hl j reply)
+    printing = rw (e, same-line x hl j reply)
 
     took-stood : state j′ reply′ out′ (s .waiting) (o .handed ++ gives) ≡ taken before (o .lines ++ (l ∷ [])) (o .follow ++ (hasLine rest ∷ []))
     unfolding taking
@@ -277,13 +194,6 @@ module _ {before : State} {had mid line reply out : List ℕ} {j : Journal} {w :
         ∙ ap (λ (z : State). z .waiting) stepped
         ∙ ap (λ (d : Bool). taking (state j reply out w []) l d .waiting) f
 
-    took-whole : had ++ (o .brought ++ read .brought) ≡ bytesOf (o .lines ++ (l ∷ [])) ++ rest
-    took-whole =
-        grown
-        ∙ ap (λ (b : List ℕ). bytesOf (o .lines) ++ b) (sym (append-assoc (l .0) (feed (l .1)) rest))
-        ∙ sym (append-assoc (bytesOf (o .lines)) (l .0 ++ feed (l .1)) rest)
-        ∙ ap (λ (b : List ℕ). b ++ rest) (sym (bytes-more (o .lines) l))
-
   -- where there is none nothing changes
   module _ (e : isLine (s .reading .failed) (s .reading .ended) (s .reading .used) ≡ false) where
     stayed : stepOf (s .reading) block′ line′ j reply out w ≡ state j reply out w []
@@ -298,58 +208,31 @@ module _ {before : State} {had mid line reply out : List ℕ} {j : Journal} {w :
 
     -- what the block had was all read without a line feed
     left-live : s .reading .ended ≡ false → s .reading .more ≡ false → s .waiting ≡ 0
-    left-live d m = k .1 .1 .1 .0 ∙ ap (λ (z : State). z .waiting) stayed ∙ o .live (had-none read d m)
+    left-live d m = k .1 .1 .1 .0 ∙ ap (λ (z : State). z .waiting) stayed ∙ o .live (had-none (x .read) d m)
 
     left-text : put (state j′ reply′ out′ (s .waiting) (o .handed)) ≡ linesText (before .journal) (before .reply) (o .lines)
     left-text = rw (k .1 .1 .0, k .1 .1 .1 .0, stayed) (o .text)
 
-  sound : s .reading .ended ≡ true → s .reading .failed ≡ false
-  sound e = go (s .reading .failed) refl
-    where
-      go : (t : Bool) → s .reading .failed ≡ t → t ≡ false
-      go true f = apart (sym e ∙ read .dry (read .failing f) .0)
-      go false f = refl
-
   -- a line feed ended the line
   module _ (e : s .reading .ended ≡ true) where
-    there : isLine (s .reading .failed) (s .reading .ended) (s .reading .used) ≡ true
-    there = rw (sound e, e)
-
-    goes-ended : (r : List ℕ) → linesOf (bytesOf (o .lines ++ (l there ∷ [])) ++ r) ≡ (o .lines ++ (l there ∷ [])) ++ linesOf r
-    goes-ended r =
-        ap linesOf
-        (ap (λ (b : List ℕ). b ++ r) (bytes-more (o .lines) (l there))
-        ∙ append-assoc (bytesOf (o .lines)) (read .text ++ feed (s .reading .ended)) r
-        ∙ ap (λ (b : List ℕ). bytesOf (o .lines) ++ b) (append-assoc (read .text) (feed (s .reading .ended)) r)
-        ∙ ap (λ (t : Bool). bytesOf (o .lines) ++ (read .text ++ (feed t ++ r))) e)
-        ∙ o .ended (read .text ++ (10 ∷ r))
-        ∙ ap (λ (b : List Line). o .lines ++ b) (law .ended (read .text) r (read .plain))
-        ∙ ap (λ (t : Bool). o .lines ++ ((read .text, t) ∷ linesOf r)) (sym e)
-        ∙ sym (append-assoc (o .lines) (l there ∷ []) (linesOf r))
-
     gone : (turns′ : ℕ) → turns ≤ turns′ + 1 → Open before had rest j′ reply′ out′ (s .waiting) (s .written) turns′
     gone turns′ h =
+        let t : isLine (s .reading .failed) (s .reading .ended) (s .reading .used) ≡ true = there x e in
         record {
-          brought = o .brought ++ read .brought;
-          lines = o .lines ++ (l there ∷ []);
+          brought = o .brought ++ x .read .brought;
+          lines = o .lines ++ (l t ∷ []);
           follow = o .follow ++ (hasLine rest ∷ []);
-          told = took-told there;
-          handed = o .handed ++ gives there;
-          whole = took-whole there;
-          stood = took-stood there;
-          text = took-text there;
-          ended = goes-ended;
-          given = took-given there;
-          live = took-live there;
+          told = took-told t;
+          handed = o .handed ++ gives t;
+          whole = more-whole (o .lines) x had (o .brought) (o .whole);
+          stood = took-stood t;
+          text = took-text t;
+          ended = more-ended (o .lines) x (o .ended) e;
+          given = took-given t;
+          live = took-live t;
           counted =
-              let f : length (feed (s .reading .ended)) ≡ 1 = ap (λ (t : Bool). length (feed t)) e in
-              omega (
-                arith,
-                o .counted,
-                ap length (bytes-more (o .lines) (l there)),
-                length-append (bytesOf (o .lines)) (read .text ++ feed (s .reading .ended)),
-                length-append (read .text) (feed (s .reading .ended)),
-              );
+              let f : length (feed (s .reading .ended)) ≡ 1 = ap (λ (d : Bool). length (feed d)) e in
+              omega (arith, o .counted, more-long (o .lines) x);
         }
 
   -- none did
@@ -358,80 +241,58 @@ module _ {before : State} {had mid line reply out : List ℕ} {j : Journal} {w :
     failing f =
         let n : isLine (s .reading .failed) (s .reading .ended) (s .reading .used) ≡ false = rw f in
         record {
-          brought = o .brought ++ read .brought;
+          brought = o .brought ++ x .read .brought;
           lines = o .lines;
           follow = o .follow;
           told = o .told;
-          unfinished = read .text;
+          unfinished = x .read .text;
           handed = o .handed;
-          whole = grown ∙ ap (λ (t : Bool). bytesOf (o .lines) ++ (read .text ++ (feed t ++ rest))) e;
+          whole = left-whole (o .lines) x had (o .brought) (o .whole) e;
           stood = left-stood n;
           text = left-text n;
-          cutting = open-cut o;
-          dry = λ _ g. apart (sym f ∙ g);
+          cutting = all-cut (o .ended);
+          dry = λ g _. apart (sym f ∙ g);
           given = left-given n;
-          live = λ _. left-live n e (read .failing f);
-          long = λ m. apart (sym m ∙ read .failing f);
+          live = λ _. left-live n e (x .read .failing f);
         }
 
     module _ (f : s .reading .failed ≡ false) where
       ending : ltb 0 (s .reading .used) ≡ false → Closed before had rest j′ reply′ out′ (s .waiting) (s .written) (s .reading)
       ending u =
           let n : isLine (s .reading .failed) (s .reading .ended) (s .reading .used) ≡ false = rw (f, e, u) in
-          let z : length (read .text) ≡ 0 = empty (k .1 .1 .1 .1 .1 .1) hl u in
           record {
-            brought = o .brought ++ read .brought;
+            brought = o .brought ++ x .read .brought;
             lines = o .lines;
             follow = o .follow;
             told = o .told;
-            unfinished = read .text;
+            unfinished = x .read .text;
             handed = o .handed;
-            whole = grown ∙ ap (λ (t : Bool). bytesOf (o .lines) ++ (read .text ++ (feed t ++ rest))) e;
+            whole = left-whole (o .lines) x had (o .brought) (o .whole) e;
             stood = left-stood n;
             text = left-text n;
-            cutting = open-cut o;
-            dry = λ m _. ap (λ (b : List ℕ). b ++ rest) (none (read .text) z) ∙ read .dry m .1;
+            cutting = all-cut (o .ended);
+            dry = λ _ _. at-end x hl e u;
             given = left-given n;
-            live = λ _. left-live n e (at-end (s .reading .more) refl);
-            long = λ m. absurd (omega (arith, z, k .1 .1 .1 .1 .1 .1 .long e m));
+            live = λ _. left-live n e (at-end x hl e u .0);
           }
-        where
-          at-end : (t : Bool) → s .reading .more ≡ t → s .reading .more ≡ false
-          at-end true m = absurd (omega (arith, empty (k .1 .1 .1 .1 .1 .1) hl u, k .1 .1 .1 .1 .1 .1 .long e m))
-          at-end false m = m
 
       last : ltb 0 (s .reading .used) ≡ true → Closed before had rest j′ reply′ out′ (s .waiting) (s .written) (s .reading)
       last u =
           let t : isLine (s .reading .failed) (s .reading .ended) (s .reading .used) ≡ true = rw (f, e, u) in
           record {
-            brought = o .brought ++ read .brought;
+            brought = o .brought ++ x .read .brought;
             lines = o .lines ++ (l t ∷ []);
             follow = o .follow ++ (hasLine rest ∷ []);
             told = took-told t;
             unfinished = [];
             handed = o .handed ++ gives t;
-            whole = took-whole t;
+            whole = more-whole (o .lines) x had (o .brought) (o .whole);
             stood = took-stood t;
             text = took-text t;
-            cutting =
-                ap linesOf
-                (bytes-more (o .lines) (l t)
-                ∙ ap (λ (d : Bool). bytesOf (o .lines) ++ (read .text ++ feed d)) e
-                ∙ ap (λ (b : List ℕ). bytesOf (o .lines) ++ b) (append-nil (read .text)))
-                ∙ o .ended (read .text)
-                ∙ ap (λ (b : List Line). o .lines ++ b) (law .last (read .text) (read .plain) (some (k .1 .1 .1 .1 .1 .1) hl u))
-                ∙ ap (λ (d : Bool). o .lines ++ ((read .text, d) ∷ [])) (sym e);
-            dry = λ m _. read .dry m .1;
+            cutting = last-cut (o .lines) x (o .ended) e (some x hl u);
+            dry = λ _. last-dry (o .lines) x e;
             given = took-given t;
             live = took-live t;
-            long = λ m.
-                omega (
-                  arith,
-                  k .1 .1 .1 .1 .1 .1 .long e m,
-                  ap length (bytes-more (o .lines) (l t)),
-                  length-append (bytesOf (o .lines)) (read .text ++ feed (s .reading .ended)),
-                  length-append (read .text) (feed (s .reading .ended)),
-                );
           }
 
       stopped : Closed before had rest j′ reply′ out′ (s .waiting) (s .written) (s .reading)
@@ -455,12 +316,6 @@ pub finished : {before : State} {had block reply out : List ℕ} {turns : ℕ} (
     → Ran before had block lent reply out (record { reading = s .reading; waiting = s .waiting; written = s .written })
 finished {before} {had} {block} {reply} {out} {turns} lent s g z = go (s .reading .ended) refl
   where
-    ends : (c : Closed before had (left block (s .reading .from) (s .reading .until)) (lent (s .state)) reply out (s .waiting) (s .written) (s .reading)) (t : Bool)
-        → s .reading .more ≡ t → s .reading .failed ≡ false → length (bytesOf (c .lines)) < endless
-        → (s .reading .more ≡ false) × (c .unfinished ++ left block (s .reading .from) (s .reading .until) ≡ [])
-    ends c true m f b = absurd (omega (arith, c .long m))
-    ends c false m f b = (m, c .dry m f)
-
     go : (t : Bool) → s .reading .ended ≡ t → Ran before had block lent reply out (record { reading = s .reading; waiting = s .waiting; written = s .written })
     go true e =
         let o = g .goes e in
@@ -471,7 +326,7 @@ finished {before} {had} {block} {reply} {out} {turns} lent s g z = go (s .readin
           told = o .told;
           unfinished = [];
           whole = o .whole;
-          cut = open-cut o;
+          cut = all-cut (o .ended);
           numbers = s .state;
           journals = ap (λ (x : State). x .journal) (o .stood);
           replies = ap (λ (x : State). x .reply) (o .stood);
@@ -498,7 +353,7 @@ finished {before} {had} {block} {reply} {out} {turns} lent s g z = go (s .readin
           prints = ap (λ (x : State). x .out) (c .stood);
           waits = ap (λ (x : State). x .waiting) (c .stood);
           text = ap put (sym (c .stood)) ∙ c .text;
-          stopped = λ v f b. ends c (s .reading .more) refl f b;
+          stopped = λ v f b. c .dry f b;
           unwritten = λ f n. c .given f (ap (λ (x : State). x .handed) (c .stood) ∙ n);
           live = c .live;
         }

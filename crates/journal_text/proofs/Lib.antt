@@ -1,3 +1,4 @@
 pub mod Ranges
 pub mod Lines
 pub mod Cutting
+pub mod Inputs

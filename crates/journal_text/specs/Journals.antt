@@ -8,6 +8,7 @@ use lib.ListN.{length, take, drop, replicate}
 use Rattle.prelude.specs.Choice.{pick}
 use Rattle.text.specs.Words.{lengthBefore}
 use Rattle.wire.specs.Frame.{maxFrameSize}
+use Rattle.line_program.specs.Reads.{feed}
 use Rattle.journal_lines.specs.declared.First.{First}
 use Rattle.lines.specs.Lines.{longest}
 use Rattle.journal_calls.specs.Calls.{Journal}
@@ -26,6 +27,11 @@ cut (suc n) input =
 abbrev pub linesOf : List ℕ → List (List ℕ × Bool)
 linesOf input = cut (length input) input
 
+-- the bytes of lines, each with its line feed where it has one
+unfoldable pub bytesOf : List (List ℕ × Bool) → List ℕ
+bytesOf [] = []
+bytesOf (l ∷ rest) = (l .0 ++ feed (l .1)) ++ bytesOf rest
+
 -- the lines behind the first, each on what the one before it left
 unfoldable pub linesText : Journal → List ℕ → List (List ℕ × Bool) → List ℕ
 linesText j reply [] = []
@@ -43,6 +49,26 @@ textOf (first ∷ rest) = opening (firstOf (first .0) (first .1)) rest
 
 unfoldable pub journalText : List ℕ → List ℕ
 journalText input = textOf (linesOf input)
+
+-- ---- what a program took of an input
+
+-- 2^63 − 1: no run takes so many bytes
+abbrev pub endless : ℕ
+endless = 9223372036854775807
+
+-- what the first line says; an input without a line has no good one
+abbrev pub firstIn : List (List ℕ × Bool) → First
+firstIn [] = firstOf [] false
+firstIn (first ∷ rest) = firstOf (first .0) (first .1)
+
+abbrev pub behindFirst : List (List ℕ × Bool) → List (List ℕ × Bool)
+behindFirst [] = []
+behindFirst (first ∷ rest) = rest
+
+-- whether reading failed before the first line was there
+abbrev pub unread : Bool → List (List ℕ × Bool) → Bool
+unread failed [] = failed
+unread failed (first ∷ rest) = false
 
 -- ---- laws
 

@@ -2,7 +2,7 @@ use mathlib.Core.Path.{ap}
 use native.Mathlib.Omega.{arith}
 use Rattle.candidates.specs.declared.Chosen.{Chosen}
 use Rattle.lines.specs.Lines.{longest}
-use Rattle.circuit_questions.proofs.Replaying.{zeros-long}
+use Rattle.journal_text.proofs.Inputs.{zeros-long}
 use borrow.Author.Needs.{needs}
 use Rattle.circuit_questions.proofs.main.Statement.{statement}
 use Rattle.circuit_questions.proofs.main.Tie as tie

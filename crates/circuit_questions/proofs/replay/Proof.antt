@@ -5,7 +5,8 @@ use lib.ListN.{length-take}
 use Rattle.ledger.specs.Ledger.{tablesOf}
 use Rattle.journal_calls.specs.declared.State.{State as Numbers}
 use Rattle.journal_calls.specs.Calls.{whole}
-use Rattle.circuit_questions.proofs.Replaying.{blank-lent, unread-first, refused-first, good-first}
+use Rattle.journal_text.proofs.Inputs.{blank-lent}
+use Rattle.circuit_questions.proofs.Replaying.{unread-first, refused-first, good-first}
 use borrow.Author.Needs.{needs}
 use Rattle.circuit_questions.proofs.replay.Statement.{statement}
 use Rattle.circuit_questions.proofs.replay.Tie as tie

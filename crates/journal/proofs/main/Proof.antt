@@ -2,7 +2,7 @@ use mathlib.Core.Path.{refl, ap}
 use native.Mathlib.Omega.{arith}
 use Rattle.candidates.specs.declared.Chosen.{Chosen}
 use Rattle.lines.specs.Lines.{longest}
-use Rattle.journal.proofs.Replaying.{zeros-long}
+use Rattle.journal_text.proofs.Inputs.{zeros-long}
 use borrow.Author.Tests.{le-leb, lt-leb, lt-ltb, le-ltb, eq-eqb, ne-eqb}
 use borrow.Author.Needs.{needs}
 use Rattle.journal.proofs.main.Statement.{statement}

@@ -5,7 +5,8 @@ use Rattle.ledger.specs.Ledger.{tablesOf}
 use Rattle.journal_calls.specs.declared.State.{State as Numbers}
 use Rattle.journal_calls.specs.Calls.{whole}
 use Rattle.journal.proofs.Stepping.{opened-within}
-use Rattle.journal.proofs.Replaying.{blank-lent, unread-first, refused-first, good-first}
+use Rattle.journal_text.proofs.Inputs.{blank-lent}
+use Rattle.journal.proofs.Replaying.{unread-first, refused-first, good-first}
 use mathlib.Core.Path.{sym, ap, _∙_}
 use borrow.Author.Tests.{le-leb, lt-leb, lt-ltb, le-ltb, eq-eqb, ne-eqb}
 use borrow.Author.Needs.{needs}
