@@ -6,6 +6,7 @@ use lib.ListN.{length, replicate}
 use Rattle.ids.specs.declared.PeerId.{PeerId}
 use Rattle.ids.specs.declared.ConnectId.{ConnectId}
 use Rattle.kinds.specs.declared.Row.{Row}
+use Rattle.rows.specs.Rows.{capacity}
 use Rattle.dials.specs.declared.First.{First}
 use Rattle.dials.specs.Dials.{askedOf, firstFor, pairs}
 use Rattle.ledger.specs.Ledger.{PathLedger, aborted, abortedWith, abortedDials}
@@ -24,6 +25,6 @@ pub same-abort : (l : PathLedger) (id : ConnectId) (target : PeerId) (ls : List 
 unfolding abortedWith abortedDials askedRows
 same-abort l id target ls =
     let found : PeerId → First = λ (p : PeerId). first (firstOf ls p) in
-    let behind = replicate (64 - length (map (askedOf target) (l .dials))) target in
+    let behind = replicate (capacity - length (map (askedOf target) (l .dials))) target in
     ap (λ (fs : List First). aborted l id (pairs (l .dials) fs)) (map-append found (map (askedOf target) (l .dials)) behind ∙ ap (λ (fs : List First). fs ++ map found behind) (same-rows ls target (l .dials)))
     ∙ ap (aborted l id) (pairs-map (firstFor target (firstLive ls)) (l .dials) (map found behind))

@@ -5,6 +5,7 @@ ghost use mathlib.Core.Path.{_≡_};
 ghost use Prim.Native.Nat.{_<_};
 ghost use lib.ListN.{getD, set};
 ghost use Rattle.rows.specs.declared.Table.the-variants.{Dials};
+ghost use Rattle.rows.specs.Rows.{capacity};
 ghost use Rattle.rows.specs.Words.{rowsOf};
 ghost use Rattle.ledger.specs.Ledger.{tablesOf, laid, abortedDials};
 ghost use Rattle.live_dials.specs.First.{isPeer, firstOf, no-peer, liveOf, first, firstsOf, firstLive};
@@ -59,7 +60,7 @@ pub struct Asked {
 }
 
 fn asked_at(a: Asked, k: usize) -> PeerId
-    requires { ⌜ k < 64 ⌝ }
+    requires { ⌜ k < capacity ⌝ }
     ensures { λ r. ⌜ r ≡ getD (a .peers) k no-peer ⌝ }
 {
     a.peers[k]
@@ -75,7 +76,7 @@ fn live_of(x: Found) -> FirstLive
 }
 
 fn put_first(mut f: Firsts, k: usize, x: Found) -> Firsts
-    requires { ⌜ k < 64 ⌝ }
+    requires { ⌜ k < capacity ⌝ }
     ensures { λ r. ⌜ r .rows ≡ set (f .rows) k (first x) ⌝ }
 {
     let r = First { live: live_of(x) };

@@ -5,6 +5,7 @@ use native.Mathlib.Omega.{arith}
 use lib.ListN.{take, getD, replicate}
 use Rattle.ids.specs.declared.PeerId.{PeerId}
 use Rattle.rows.specs.declared.Table.the-variants.{Dials}
+use Rattle.rows.specs.Rows.{capacity}
 use Rattle.rows.specs.Words.{rowsOf, noRow}
 use Rattle.rows.proofs.Lists.{map-more, map-all}
 use Rattle.dials.specs.Dials.{askedOf}
@@ -15,7 +16,7 @@ use Rattle.live_dials.proofs.asked_rows.Statement.{statement}
 use Rattle.live_dials.proofs.asked_rows.Tie as tie
 
 abbrev Inv-loop : tie.InvT-loop
-Inv-loop l target n a₀ k₀ a k = (k ≤ n) × (a .peers ≡ map (askedOf target) (take k (rowsOf Dials l)) ++ replicate (64 - k) target)
+Inv-loop l target n a₀ k₀ a k = (k ≤ n) × (a .peers ≡ map (askedOf target) (take k (rowsOf Dials l)) ++ replicate (capacity - k) target)
 
 abbrev μ-loop : tie.MeasureT-loop
 μ-loop l target n a₀ k₀ a k = n - k
