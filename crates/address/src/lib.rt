@@ -1,5 +1,7 @@
 // Which addresses may be punch targets (inbound.rs, is_punchable_quic with is_global_unicast_v4, is_global_unicast_v6 and
 // is_unicast_v4): one table of ranges for both families, in which the longest range that holds the address decides.
+#![tactic(auto)]
+
 ghost use Rattle.std.specs.Prelude.{◌≡◌, Bool, ◌+◌, ◌*◌, ◌<◌, ◌≤◌, ◌^◌, ◌-◌, length};
 ghost use Rattle.address.specs.LeadingBits.{same_leading_bits};
 ghost use Rattle.address.specs.Ranges.{lies_in, first_row, longest_row, table, verdict_of, permits};
@@ -7,28 +9,28 @@ ghost use Rattle.address.specs.Words.{InBits, judged_as, passes, may_be_target};
 ghost use Rattle.address.specs.Multiaddr.{big_endian, number, is_name, ends_well, has_form, parsed};
 
 // An IP address: 32 bits, or two halves of 64 bits.
-#[derive(Drop)]
+#[derive(Clone, Copy)]
 pub enum Ip {
     V4(u32),
     V6(u64, u64),
 }
 
 // A prefix and its length in bits. An IPv6 prefix has two halves.
-#[derive(Drop)]
+#[derive(Clone, Copy)]
 pub enum Prefix {
     Net4(u32, u32),
     Net6(u64, u64, u32),
 }
 
 // When the addresses of a range may be targets: always, only with private targets on, or never.
-#[derive(Drop)]
+#[derive(Clone, Copy)]
 pub enum Verdict {
     Always,
     PrivateOnly,
     Never,
 }
 
-#[derive(Drop)]
+#[derive(Clone, Copy)]
 pub struct Range(pub Prefix, pub Verdict);
 
 const ROWS: usize = 33;
@@ -202,7 +204,7 @@ pub fn eligible(ip: Ip, private: bool) -> bool
 }
 
 // What the bytes of a multiaddr stand for.
-#[derive(Drop)]
+#[derive(Clone, Copy)]
 pub enum Parsed {
     Address { ip: Ip, port: u16 },
     Other,

@@ -1,4 +1,6 @@
 // Laws of addresses: the bytes that are one, as the table of section 6 of docs/RULES.md has them, and no others.
+#![tactic(auto)]
+
 ghost use Rattle.std.specs.Prelude.{◌≡◌, List, ℕ};
 ghost use Rattle.address.specs.Multiaddr.{parsed};
 ghost use Rattle.address.specs.declared.Ip.{Ip};

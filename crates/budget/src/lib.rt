@@ -1,24 +1,26 @@
 // The time limits of an upgrade (budget.rs): its deadline, its rounds and the running exchange.
+#![tactic(auto)]
+
 ghost use Rattle.std.specs.Prelude.{◌≡◌, ℕ, ◌-◌, ◌≤◌, List, [], ◌∷◌, ltb};
 ghost use Rattle.budget.specs.Budget.{max_rounds, armed, may_begin, begun, with_exchange, ended, window_end, upgrade_due, due_at, values_of, next_deadline};
 ghost use Rattle.budget.specs.Due.{Due};
 
 // The exchange of a round: when it began and when it must be over.
-#[derive(Drop)]
+#[derive(Clone, Copy)]
 pub enum Exchange {
     Idle,
     Running { started: u64, end: u64 },
 }
 
 // The limit that ran out, and how long it was.
-#[derive(Drop)]
+#[derive(Clone, Copy)]
 pub enum UpgradeStop {
     None,
     ExchangeTimeout { round: u32, budget_ms: u64 },
     UpgradeTimeout { budget_ms: u64 },
 }
 
-#[derive(Drop)]
+#[derive(Clone, Copy)]
 pub struct UpgradeBudget {
     // When the circuit came up.
     pub armed: u64,

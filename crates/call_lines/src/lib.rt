@@ -1,4 +1,6 @@
 // A line of the test program: its call made, on what is kept and the ledger, and its answer printed.
+#![tactic(auto)]
+
 ghost use Rattle.std.specs.Prelude.{◌≡◌};
 ghost use Rattle.text.specs.Printed.{printed, behind};
 ghost use Rattle.forms.specs.Tables.{ShareNoLine};
@@ -9,7 +11,7 @@ use ledger::Ledger;
 use library_calls::Kept;
 
 // What is kept after a line, and where its answer ends in the buffer.
-#[derive(Drop)]
+#[derive(Clone, Copy)]
 pub struct Answered {
     pub kept: Kept,
     pub end: usize,

@@ -1,5 +1,7 @@
 // Calls as a table of text: a row for each, its form and the forms of its answers. A line becomes a call's row and words, and an answer a
 // line. What a call does stands elsewhere, as a function from words and bytes to words and bytes.
+#![tactic(auto)]
+
 ghost use Rattle.std.specs.Prelude.{◌≡◌, ◌≤◌, length};
 ghost use Rattle.text.specs.Printed.{printed, behind};
 ghost use Rattle.forms.specs.Texts.{part};
@@ -8,7 +10,7 @@ ghost use Rattle.call_table.specs.Tables.{part_from, words_by, no_call, call_of,
 // ---- the parts of a text
 
 // Where a part stands.
-#[derive(Drop)]
+#[derive(Clone, Copy)]
 pub struct Part {
     pub start: usize,
     pub end: usize,
@@ -41,7 +43,7 @@ fn part_of(s: &[u8], separator: u8, k: usize) -> Part
 
 // ---- the call of a line
 
-#[derive(Drop)]
+#[derive(Clone, Copy)]
 pub struct Tried {
     pub good: bool,
     pub words: [u64; 8],
@@ -68,7 +70,7 @@ fn try_row(row: &[u8], line: &[u8]) -> Tried
 }
 
 // Which row's form a line has, and its words.
-#[derive(Drop)]
+#[derive(Clone, Copy)]
 pub struct Call {
     pub found: bool,
     pub row: usize,
@@ -116,7 +118,7 @@ pub fn call_of(table: &[u8], line: &[u8]) -> Call
 pub type Line = [u8; lines::LONGEST];
 
 // They are the first `len`.
-#[derive(Drop)]
+#[derive(Clone, Copy)]
 pub struct Bytes {
     pub bytes: Line,
     pub len: usize,
@@ -160,7 +162,7 @@ pub fn bytes_in(line: &[u8], start: u64, end: u64) -> Bytes
 pub type Shown = [u8; 8192];
 
 // Which of its row's, its words, and the bytes that it shows.
-#[derive(Drop)]
+#[derive(Clone, Copy)]
 pub struct Said {
     pub answer: usize,
     pub words: [u64; 6],
@@ -218,7 +220,7 @@ pub fn put_said(table: &[u8], row: usize, said: Said, out: &mut [u8]) -> usize
 }
 
 // Whether a line has one of a table's forms, and where its answer ends in the buffer.
-#[derive(Drop)]
+#[derive(Clone, Copy)]
 pub struct Answered {
     pub found: bool,
     pub end: usize,

@@ -1,5 +1,7 @@
 // Makes the calls that stand on standard input, a line for a line, and prints what each answers: for the comparison with the Rust. README.md
 // has the lines.
+#![tactic(auto)]
+
 ghost use Rattle.std.specs.Prelude.{◌≡◌, ◌≤◌, length};
 ghost use Rattle.text.specs.Printed.{printed, behind};
 ghost use Rattle.line_program.specs.Reads.{left, NextLine};
@@ -12,7 +14,7 @@ use library_calls::Kept;
 use line_program::Reading;
 
 // Where the input stands behind a line, what is kept, how many bytes of the buffer were handed over to be written, and whether they were.
-#[derive(Drop)]
+#[derive(Clone, Copy)]
 pub struct Step {
     pub reading: Reading,
     pub kept: Kept,

@@ -1,5 +1,7 @@
 // Which addresses become punch targets, and which of one's own are offered (inbound.rs, select_punch_candidates and
 // bound_punch_candidates; agent.rs, punch_candidates). What is kept is an address list again.
+#![tactic(auto)]
+
 ghost use Rattle.std.specs.Prelude.{◌≡◌, ℕ, ◌<◌, ◌≤◌, ◌^◌};
 ghost use mathlib.Core.List.{List, [], foldl};
 ghost use Rattle.prelude.specs.Lists.{count};
@@ -33,20 +35,20 @@ const LENGTH_SIZE: usize = 2;
 pub const CAPACITY: usize = MAX_PUNCH_CANDIDATES * (LENGTH_SIZE + address::LONGEST_V6);
 
 // The addresses kept, as an address list from the first byte on.
-#[derive(Drop)]
+#[derive(Clone, Copy)]
 pub struct Chosen {
     pub bytes: [u8; CAPACITY],
     pub len: usize,
 }
 
 // A refused list has nothing chosen.
-#[derive(Drop)]
+#[derive(Clone, Copy)]
 pub struct Selection {
     pub outcome: Outcome,
     pub chosen: Chosen,
 }
 
-#[derive(Drop)]
+#[derive(Clone, Copy)]
 pub struct Limits {
     pub total: usize,
     pub family: usize,
@@ -55,14 +57,14 @@ pub struct Limits {
 }
 
 // What the peer's candidates are chosen by: the limits, and whether a private address may be a target.
-#[derive(Drop)]
+#[derive(Clone, Copy)]
 pub struct Terms {
     pub limits: Limits,
     pub private: bool,
 }
 
 // How many addresses there are, how many of a family, and how many of an IP.
-#[derive(Drop)]
+#[derive(Clone, Copy)]
 pub struct Counts {
     pub total: usize,
     pub family: usize,
@@ -70,7 +72,7 @@ pub struct Counts {
 }
 
 // Whose list it is: the peer's, one's own, or one that is only to be bounded.
-#[derive(Drop)]
+#[derive(Clone, Copy)]
 pub enum Source {
     Peer { private: bool },
     Own,

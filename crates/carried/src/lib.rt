@@ -1,5 +1,7 @@
 // A decision carried out on what was lent: the message for the host, the source's ledger window, the CONNECT of a round that opens, and
 // the targets of a window that opens (inbound.rs).
+#![tactic(auto)]
+
 ghost use Rattle.std.specs.Prelude.{◌≡◌, length};
 ghost use Rattle.frames.specs.Sent.{frame_capacity};
 ghost use Rattle.candidates.specs.Selection.{capacity};

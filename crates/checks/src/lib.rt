@@ -1,4 +1,6 @@
 // What up, tick and input are refused with before they do anything.
+#![tactic(auto)]
+
 ghost use Rattle.std.specs.Prelude.{◌≡◌};
 ghost use Rattle.checks.specs.Refusals.{in_use, check_of};
 

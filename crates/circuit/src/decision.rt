@@ -9,7 +9,7 @@ use refusal::Refusal;
 use vocabulary::{Effect, Outcome};
 
 // The source's ledger window is as it was, is removed, or is opened or extended to a time.
-#[derive(Drop)]
+#[derive(Clone, Copy)]
 pub enum Fate {
     Kept,
     Removed,
@@ -17,7 +17,7 @@ pub enum Fate {
 }
 
 // The message that goes out, if one does: CONNECT has so many bytes.
-#[derive(Drop)]
+#[derive(Clone, Copy)]
 pub enum Message {
     None,
     Connect(usize),
@@ -25,7 +25,7 @@ pub enum Message {
 }
 
 // What a call says before it is known whether a round opens: the first three effects, and the message.
-#[derive(Drop)]
+#[derive(Clone, Copy)]
 pub struct Said {
     pub first: Effect,
     pub second: Effect,
@@ -35,7 +35,7 @@ pub struct Said {
 
 // The effects in order: a path, burst, upgrade or close; then a send, a reset, an open. `took` is whether the circuit took an established
 // connection as its own: the circuit itself, or a direct one from the source.
-#[derive(Drop)]
+#[derive(Clone, Copy)]
 pub struct Decision {
     pub core: Core,
     pub outcome: Outcome,

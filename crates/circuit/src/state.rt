@@ -9,7 +9,7 @@ use schedule::BlastSchedule;
 use vocabulary::Settings;
 
 // How far the round's CONNECT got.
-#[derive(Drop)]
+#[derive(Clone, Copy)]
 pub enum ConnectWrite {
     Unsent,
     // The host still holds a part of it.
@@ -17,7 +17,7 @@ pub enum ConnectWrite {
     Sent { at: u64 },
 }
 
-#[derive(Drop)]
+#[derive(Clone, Copy)]
 pub enum Phase {
     Handshaking {
         deadline: u64,
@@ -41,7 +41,7 @@ pub enum Phase {
 }
 
 // The round's CONNECT and the window's targets are bytes that stand beside it; their numbers are here.
-#[derive(Drop)]
+#[derive(Clone, Copy)]
 pub struct Core {
     pub source: PeerId,
     pub relay: PeerId,

@@ -1,5 +1,7 @@
 // Replays the journal on standard input and prints after each line what the circuit then answers to the questions of docs/RULES.md,
 // section 11.9, asked about the connection of its own number, and whether the line's call took a connection. README.md has the lines.
+#![tactic(auto)]
+
 ghost use Rattle.std.specs.Prelude.{◌≡◌, true, false, ◌≤◌, length, replicate};
 ghost use Rattle.prelude.specs.Choice.{bit};
 ghost use Rattle.rows.specs.Words.{ledger_words};
@@ -27,7 +29,7 @@ use vocabulary::Deadline;
 
 // ---- what the circuit answers
 
-#[derive(Drop)]
+#[derive(Clone, Copy)]
 pub struct Answers {
     pub next: Deadline,
     pub promotes: bool,
@@ -78,7 +80,7 @@ fn one_if(v: bool) -> u64
 }
 
 // A time, or none: whether there is one, and which.
-#[derive(Drop)]
+#[derive(Clone, Copy)]
 pub struct Given {
     pub given: u64,
     pub at: u64,
@@ -116,7 +118,7 @@ fn put_answers(n: u64, a: Answers, took: bool, out: &mut [u8]) -> usize
 // ---- a line
 
 // The journal after a line, and where the line printed of it ends in the buffer.
-#[derive(Drop)]
+#[derive(Clone, Copy)]
 pub struct Answered {
     pub state: State,
     pub end: usize,
@@ -154,7 +156,7 @@ fn answer_line(
 // ---- the program
 
 // Where the input stands behind a line, the journal, how many bytes of the buffer were handed over last, and whether they were written.
-#[derive(Drop)]
+#[derive(Clone, Copy)]
 pub struct Step {
     pub reading: Reading,
     pub state: State,
@@ -213,7 +215,7 @@ fn take_step(
 }
 
 // Where the input stood as the program stopped, how many bytes of the buffer were handed over last, and whether they were written.
-#[derive(Drop)]
+#[derive(Clone, Copy)]
 pub struct Ending {
     pub reading: Reading,
     pub handed: usize,

@@ -1,4 +1,6 @@
 // Dropping the dials of a connect attempt (`abort_attempt_dials` of ledger.rs), over the table of dials.
+#![tactic(auto)]
+
 ghost use Rattle.std.specs.Prelude.{◌≡◌, []};
 ghost use Rattle.rows.specs.declared.Table.TheVariants.{Dials};
 ghost use Rattle.rows.specs.Words.{rows_of, laid};
@@ -10,44 +12,44 @@ use path::{Dial, DialPurpose};
 use rows::{Ledger, Marks, ROWS, Table};
 
 // A peer's first live connection, if it has one.
-#[derive(Drop)]
+#[derive(Clone, Copy)]
 pub enum FirstLive {
     None,
     At(ConnectionId),
 }
 
-#[derive(Drop)]
+#[derive(Clone, Copy)]
 pub struct First {
     pub live: FirstLive,
 }
 
 // The first live connection of the peer to ask for, for each row of the table.
-#[derive(Drop)]
+#[derive(Clone, Copy)]
 pub struct Firsts {
     pub rows: [First; ROWS],
 }
 
-#[derive(Drop)]
+#[derive(Clone, Copy)]
 pub struct Tokens {
     pub tokens: [NatToken; ROWS],
     pub count: u64,
 }
 
-#[derive(Drop)]
+#[derive(Clone, Copy)]
 pub struct Connections {
     pub connections: [ConnectionId; ROWS],
     pub count: u64,
 }
 
 // The tokens that were retired and the connections to close, in the order of the rows.
-#[derive(Drop)]
+#[derive(Clone, Copy)]
 pub struct Dropped {
     pub retired: Tokens,
     pub close: Connections,
 }
 
 // What becomes of a dial.
-#[derive(Drop)]
+#[derive(Clone, Copy)]
 pub enum Fate {
     // It is another attempt's, or no attempt's.
     Other,

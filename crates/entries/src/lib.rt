@@ -1,4 +1,6 @@
 // What a table's row for a key says, read as a dial, a path or the end of a punch window. A row of another kind counts as none.
+#![tactic(auto)]
+
 ghost use Rattle.std.specs.Prelude.{◌≡◌};
 ghost use Rattle.rows.specs.Words.{rows_of};
 ghost use Rattle.rows.specs.declared.Table.TheVariants.{Dials, Windows, Paths};

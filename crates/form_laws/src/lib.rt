@@ -1,5 +1,7 @@
 // Laws of forms: what is printed is read, and only that; which forms share no line; how long a text is at most (sections 12.2 and 12.3 of
 // docs/RULES.md).
+#![tactic(auto)]
+
 ghost use Rattle.std.specs.Prelude.{◌≡◌, true, List, ℕ, ◌≤◌, length};
 ghost use Rattle.forms.specs.Forms.{Reading};
 ghost use Rattle.forms.specs.Texts.{Value, text, Fits, is_form, values_of};

@@ -1,4 +1,6 @@
 // Lines whose form is data: one reader and one printer for every form.
+#![tactic(auto)]
+
 ghost use Rattle.std.specs.Prelude.{◌≡◌, true, false, ◌∷◌, [], ◌+◌, ◌≤◌, min, take, get_or};
 ghost use Rattle.text.specs.Printed.{printed, behind};
 ghost use Rattle.text.specs.Decimal.{decimal_of};
@@ -9,7 +11,7 @@ ghost use Rattle.forms.specs.Texts.{Value, word_at, maybe_text, pair_text, value
 use text::Number;
 
 // What a byte of a form stands for: itself, or a value.
-#[derive(Drop)]
+#[derive(Clone, Copy)]
 pub enum Kind {
     Literal,
     Number,
@@ -57,7 +59,7 @@ fn is_literal(kind: Kind) -> bool
 }
 
 // The numbers that a value is handed out as.
-#[derive(Drop)]
+#[derive(Clone, Copy)]
 pub enum Words {
     One(u64),
     Two(u64, u64),

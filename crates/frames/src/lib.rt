@@ -1,4 +1,6 @@
 // Frames (lib.rs): CONNECT and SYNC as they go out, the CONNECT of an own address list, and a frame that is gathered in a lent buffer.
+#![tactic(auto)]
+
 ghost use Rattle.std.specs.Prelude.{◌≡◌, false, List, [], ℕ, ◌+◌, ◌<◌, ◌≤◌, length, replicate};
 ghost use Rattle.message.specs.Encoding.{frame_bytes};
 ghost use Rattle.wire.specs.Frame.{max_frame_size};
@@ -32,7 +34,7 @@ pub const FRAME_CAPACITY: usize = HEAD_SIZE
 pub type FrameBytes = [u8; FRAME_CAPACITY];
 
 // A frame's bytes from the first on, and their number.
-#[derive(Drop)]
+#[derive(Clone, Copy)]
 pub struct Framed {
     pub bytes: FrameBytes,
     pub len: usize,
@@ -122,7 +124,7 @@ pub fn own_connect(list: &[u8], limits: Limits) -> Framed
 // ---- A frame gathered
 
 // How many frame bytes the buffer has, and what frame they are.
-#[derive(Drop)]
+#[derive(Clone, Copy)]
 pub struct Gathered {
     pub count: usize,
     pub frame: Frame,

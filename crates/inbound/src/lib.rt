@@ -1,4 +1,6 @@
 // A circuit by value, with its bytes (inbound.rs, `InboundCircuit`): each call lends them to the call of `lent` on its core.
+#![tactic(auto)]
+
 ghost use Rattle.std.specs.Prelude.{◌≡◌};
 ghost use Rattle.ledger.specs.Ledger.{tables_of, laid};
 ghost use Rattle.circuit.specs.State.{is_done};
@@ -16,7 +18,7 @@ use lent::{TargetBytes, calls};
 use path::Claim;
 use vocabulary::{Deadline, Effect, Host, Outcome, Settings, StreamInput};
 
-#[derive(Drop)]
+#[derive(Clone, Copy)]
 pub struct InboundCircuit {
     pub core: Core,
     pub connect: FrameBytes,
@@ -24,7 +26,7 @@ pub struct InboundCircuit {
 }
 
 // The targets of a burst are those of the circuit that is answered.
-#[derive(Drop)]
+#[derive(Clone, Copy)]
 pub struct Answer {
     pub circuit: InboundCircuit,
     pub outcome: Outcome,

@@ -1,4 +1,6 @@
 // The initiator of an exchange (lib.rs): the reply that is gathered in the lent buffer, read before it is stored.
+#![tactic(auto)]
+
 ghost use Rattle.std.specs.Prelude.{◌≡◌, ◌+◌, ◌≤◌, length, replicate};
 ghost use Rattle.std.proofs.lemmas.List.Edits.{sets};
 ghost use Rattle.message.specs.Message.{decode_of, decode_into};
@@ -9,7 +11,7 @@ use message::{Decoded, Kind};
 use wire::{Frame, MAX_FRAME_SIZE};
 
 // What the gathered bytes answer: more are needed, a CONNECT with a list of size bytes, or anything else.
-#[derive(Drop)]
+#[derive(Clone, Copy)]
 pub enum Reply {
     More { count: usize },
     Connect { size: usize },

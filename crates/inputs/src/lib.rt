@@ -1,4 +1,6 @@
 // What the exchange's stream brings (inbound.rs, `on_dcutr_stream_input`).
+#![tactic(auto)]
+
 ghost use Rattle.std.specs.Prelude.{◌≡◌};
 ghost use Rattle.inputs.specs.Inputs.{closing, in_exchange, write_of, first_input, round_trip, window_of, open_window, replied, later_input, timely_input, exchange_input, input_at, went_out, is_data, awaits_in, awaits, frame_bytes};
 
@@ -14,7 +16,7 @@ use vocabulary::{Effect, Host, StreamInput};
 
 // What an input's bytes bring of the reply: nothing, where they are not the reply's; so many frame bytes and no whole frame; a failure; or
 // a CONNECT.
-#[derive(Drop)]
+#[derive(Clone, Copy)]
 pub enum Heard {
     Nothing,
     More(usize),
@@ -34,7 +36,7 @@ fn is_closing(input: StreamInput) -> bool
 }
 
 // The running exchange.
-#[derive(Drop)]
+#[derive(Clone, Copy)]
 pub struct Running {
     pub conn: ConnectionId,
     pub stream: StreamId,
@@ -100,7 +102,7 @@ fn round_trip(connect: ConnectWrite, now: u64) -> u64
 }
 
 // A window's end, the instants due with the reply, and the schedule of the others.
-#[derive(Drop)]
+#[derive(Clone, Copy)]
 pub struct Window {
     pub until: u64,
     pub due: NewlyDue,

@@ -1,5 +1,7 @@
 // Replays a journal: reads it from standard input, and writes what its lines print to standard output (docs/RULES.md, section 12). Before
 // each read that may wait all that was printed is written, so that a host can write line by line and read what each does.
+#![tactic(auto)]
+
 ghost use Rattle.std.specs.Prelude.{◌≡◌, true, ◌+◌, ◌*◌, ◌≤◌, length, take, replicate, [], ◌++◌};
 ghost use Rattle.rows.specs.Words.{ledger_words};
 ghost use Rattle.wire.specs.Frame.{max_frame_size};
@@ -23,7 +25,7 @@ use line_program::Reading;
 const ROOM: usize = 4 * journal_prints::ROOM;
 
 // Where the input stands behind a line, the journal, and the output that waits.
-#[derive(Drop)]
+#[derive(Clone, Copy)]
 pub struct Step {
     pub reading: Reading,
     pub state: State,
@@ -87,7 +89,7 @@ fn take_step(
 }
 
 // Where the input stood as the program stopped, and the output that waits.
-#[derive(Drop)]
+#[derive(Clone, Copy)]
 pub struct Ending {
     pub reading: Reading,
     pub waiting: usize,

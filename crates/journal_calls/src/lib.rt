@@ -1,5 +1,7 @@
 // What the calls of a journal's lines do. The journal's numbers go in by value and come back with what is to be said; its bytes are lent:
 // the circuit's CONNECT and targets, the message that goes out, the ledger, and the reply buffer.
+#![tactic(auto)]
+
 ghost use Rattle.std.specs.Prelude.{◌≡◌};
 ghost use Rattle.path.specs.declared.DialPurpose.TheVariants.{Punch};
 ghost use Rattle.ledger.specs.Ledger.{tables_of, laid, dial_started, forgotten, attributed};
@@ -24,7 +26,7 @@ use vocabulary::{Effect, Host, Outcome, Settings, StreamInput};
 // ---- the state
 
 // The journal, but for its bytes. Before a start was accepted `core` stands in for none, and no line reaches it.
-#[derive(Drop)]
+#[derive(Clone, Copy)]
 pub struct State {
     // The lines so far, without the first.
     pub n: u64,
@@ -34,7 +36,7 @@ pub struct State {
 }
 
 // An accepted call says its effects, or how a connection was named.
-#[derive(Drop)]
+#[derive(Clone, Copy)]
 pub enum Said {
     Effects,
     Attributed(FoundPath),
@@ -42,7 +44,7 @@ pub enum Said {
 }
 
 // The journal after a line, and what is said of the line.
-#[derive(Drop)]
+#[derive(Clone, Copy)]
 pub struct Turn {
     pub state: State,
     pub said: Said,

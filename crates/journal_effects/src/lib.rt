@@ -1,4 +1,6 @@
 // What the journal prints of a circuit's answer: an output line for each effect, in order, or the line `none`.
+#![tactic(auto)]
+
 ghost use Rattle.std.specs.Prelude.{◌≡◌, ◌*◌, ◌≤◌, min, length, take};
 ghost use Rattle.text.specs.Printed.{printed, behind};
 ghost use Rattle.journal_prints.specs.Outputs.{send_text, burst_text};
@@ -14,7 +16,7 @@ use vocabulary::Effect;
 
 // `message` is how many bytes are sent, `targets` how many are those of the burst's targets; the bytes are lent. `took` is whether the circuit
 // took an established connection: an answer that no line is printed of.
-#[derive(Drop)]
+#[derive(Clone, Copy)]
 pub struct Effects {
     pub first: Effect,
     pub second: Effect,

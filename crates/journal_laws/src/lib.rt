@@ -1,4 +1,6 @@
 // Laws of whole journals, over the definitions that `journal_text` is proved to follow.
+#![tactic(auto)]
+
 ghost use Rattle.std.specs.Prelude.{ℕ, ◌≡◌, List, []};
 ghost use Rattle.text.specs.Words.{ascii};
 ghost use Rattle.journal_text.specs.Journals.{journal_text, LineByLine, LongLinesAreOne};

@@ -1,4 +1,6 @@
 // One line of a journal, without its line feed: the settings, or a call. Each is read by its form (RULES.md, sections 12.4 and 12.5).
+#![tactic(auto)]
+
 ghost use Rattle.std.specs.Prelude.{◌≡◌, [], length, eqb};
 ghost use Rattle.prelude.specs.Choice.{either};
 ghost use Rattle.forms.specs.Tables.{ShareNoLine};
@@ -10,20 +12,20 @@ use ids::{ConnectId, ConnectionId, NatToken, PeerId, StreamId};
 use vocabulary::{Live, Offer, Settings, StreamInput};
 
 // Where hexadecimal digits stand in the line; none for `-`.
-#[derive(Drop)]
+#[derive(Clone, Copy)]
 pub struct Digits {
     pub start: usize,
     pub end: usize,
 }
 
-#[derive(Drop)]
+#[derive(Clone, Copy)]
 pub enum First {
     Settings(Settings),
     Unknown,
 }
 
 // `circuit` of an up and an attribute: whether `via` is circuit. `live`, `offer`, `pending` and `own` are the host's answers.
-#[derive(Drop)]
+#[derive(Clone, Copy)]
 pub enum Line {
     Start {
         at: u64,

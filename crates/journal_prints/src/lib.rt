@@ -1,5 +1,7 @@
 // What the journal prints: one line for each output, into a lent buffer. Each function answers the place behind its text; what the
 // buffer has no room for is left out.
+#![tactic(auto)]
+
 ghost use Rattle.std.specs.Prelude.{◌≡◌, List, [], ◌∷◌, ℕ, ◌*◌, ◌≤◌, length};
 ghost use Rattle.wire.specs.Lists.{entries};
 ghost use Rattle.text.specs.Printed.{printed, behind};

@@ -1,5 +1,7 @@
 // What a journal prints, line by line: each line in, its output lines behind what a lent buffer holds already. What the buffer has no
 // room for is left out.
+#![tactic(auto)]
+
 ghost use Rattle.std.specs.Prelude.{◌≡◌, ◌++◌, ◌+◌, ◌*◌, ◌≤◌, length, take};
 ghost use Rattle.text.specs.Printed.{printed, behind};
 ghost use Rattle.journal_prints.specs.Outputs.{attributed_text};
@@ -22,7 +24,7 @@ use vocabulary::Settings;
 // ---- the first line
 
 // The journal that a good first line opens, and the place behind what was printed.
-#[derive(Drop)]
+#[derive(Clone, Copy)]
 pub struct Opening {
     pub good: bool,
     pub state: State,
@@ -145,7 +147,7 @@ fn put_said(
 }
 
 // The journal after a line, and the place behind what was printed.
-#[derive(Drop)]
+#[derive(Clone, Copy)]
 pub struct Answered {
     pub state: State,
     pub next: usize,

@@ -1,5 +1,7 @@
 // What a journal's lines do, one after the other. The journal's numbers go in by value and come back with what is to be said; its bytes are
 // lent: the circuit's CONNECT and targets, the message that goes out, the ledger, and the reply buffer.
+#![tactic(auto)]
+
 ghost use Rattle.std.specs.Prelude.{◌≡◌, ◌<◌, length, replicate};
 ghost use Rattle.text.specs.Printed.{printed, behind};
 ghost use Rattle.ledger.specs.Ledger.{tables_of, laid};

@@ -1,4 +1,6 @@
 // What a row of the path ledger says: a row's five words, and the entry that they are, each from the other.
+#![tactic(auto)]
+
 ghost use Rattle.std.specs.Prelude.{◌≡◌, ℕ};
 ghost use Rattle.kinds.specs.declared.Entry.{Entry};
 ghost use Rattle.kinds.specs.Kinds.{entry_of, row_of, keyed, dial_numbers, owned_numbers, path_numbers, dialed as dialedEntry, owned as ownedEntry};
@@ -7,7 +9,7 @@ use ids::{ConnectId, NatToken, PeerId};
 use path::{Attribution, Dial, DialPurpose, Owner, Path};
 
 // A row's five words.
-#[derive(Drop)]
+#[derive(Clone, Copy)]
 pub struct Row {
     pub key: u64,
     pub kind: u64,
@@ -40,7 +42,7 @@ const INBOUND: u64 = 1;
 const ATTEMPT: u64 = 2;
 
 // What a row says of its key: a dial or a path of a connection, or the end of a peer's punch window.
-#[derive(Drop)]
+#[derive(Clone, Copy)]
 pub enum Entry {
     Other,
     Dialed(Dial),

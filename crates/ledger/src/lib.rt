@@ -1,5 +1,7 @@
 // The path ledger (ledger.rs): the one place that decides by which path a connection came, and that knows why it was dialed. The host
 // lends it as words; any words are a ledger.
+#![tactic(auto)]
+
 ghost use Rattle.std.specs.Prelude.{◌≡◌, replicate};
 ghost use Rattle.rows.specs.Words.{ledger_words};
 ghost use Rattle.ledger.specs.Ledger.{empty_ledger, tables_of, laid, dial_started, finish_dial, aborted_with, refuses_punches, expect_punches, end_punches, judged_by, attributed, replaced_by, forgotten, is_punched, ticked, next_deadline, is_quiet};
@@ -14,7 +16,7 @@ use vocabulary::{Deadline, Outcome};
 
 pub type Ledger = rows::Ledger;
 
-#[derive(Drop)]
+#[derive(Clone, Copy)]
 pub enum Answer {
     Path(Attribution),
     None,

@@ -1,4 +1,6 @@
 // Calls of `ledger`, on a lent ledger, for the test program: a table of forms, and what each of its calls does and answers.
+#![tactic(auto)]
+
 ghost use Rattle.std.specs.Prelude.{◌≡◌, ℕ, ◌≤◌, take};
 ghost use Rattle.text.specs.Printed.{printed, behind};
 ghost use Rattle.rows.specs.Words.{rows_of};

@@ -54,7 +54,7 @@ fn live_at(s: &[u8], at: usize) -> Live
 pub const RECORDS: usize = 1024;
 
 // The first `n`.
-#[derive(Drop)]
+#[derive(Clone, Copy)]
 pub struct Lives {
     pub rows: [Live; RECORDS],
     pub n: usize,

@@ -23,7 +23,7 @@ pub fn purpose_of(word: u64, of: u64, relay: u64) -> DialPurpose
     DialPurpose::Reserve(PeerId(of))
 }
 
-#[derive(Drop)]
+#[derive(Clone, Copy)]
 pub struct PurposeWords {
     pub word: u64,
     pub of: u64,
@@ -73,7 +73,7 @@ pub fn path_of(word: u64, relay: u64) -> Path
     Path::Direct
 }
 
-#[derive(Drop)]
+#[derive(Clone, Copy)]
 pub struct PathWords {
     pub word: u64,
     pub relay: u64,
@@ -106,7 +106,7 @@ pub fn owner_of(word: u64, id: u64) -> Owner
     Owner::Attempt(ConnectId(id))
 }
 
-#[derive(Drop)]
+#[derive(Clone, Copy)]
 pub struct OwnerWords {
     pub word: u64,
     pub id: u64,

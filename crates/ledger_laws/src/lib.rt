@@ -1,4 +1,6 @@
 // Laws of the path ledger, as promises: each is the contract of a function that does nothing.
+#![tactic(auto)]
+
 ghost use Rattle.std.specs.Prelude.{◌≡◌, Bool, true, List, ℕ, ◌≤◌, length};
 ghost use Rattle.ids.specs.declared.PeerId.{PeerId};
 ghost use Rattle.ids.specs.declared.ConnectionId.{ConnectionId};

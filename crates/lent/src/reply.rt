@@ -8,7 +8,7 @@ use initiator::Reply;
 use inputs::Heard;
 
 // What was heard; a CONNECT brings targets.
-#[derive(Drop)]
+#[derive(Clone, Copy)]
 pub struct Peeked {
     pub heard: Heard,
     pub targets: Chosen,

@@ -9,14 +9,14 @@ use budget::{UpgradeBudget, UpgradeStop};
 use call_table::Said;
 
 // Before the first arm there is no budget.
-#[derive(Drop)]
+#[derive(Clone, Copy)]
 pub enum Kept {
     Unarmed,
     Armed(UpgradeBudget),
 }
 
 // What is kept after a call, and what is said of it.
-#[derive(Drop)]
+#[derive(Clone, Copy)]
 pub struct Turn {
     pub kept: Kept,
     pub said: Said,
@@ -120,7 +120,7 @@ fn respond(kept: Kept, row: usize, w: [u64; 8]) -> Turn
 }
 
 // Whether the line is one of these calls, what is kept, and where the answer ends in the buffer.
-#[derive(Drop)]
+#[derive(Clone, Copy)]
 pub struct Answered {
     pub found: bool,
     pub kept: Kept,

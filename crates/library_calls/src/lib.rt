@@ -1,4 +1,6 @@
 // Calls of `wire`, `message`, `address`, `candidates`, `budget` and `schedule`, a table for each library, for the test program.
+#![tactic(auto)]
+
 ghost use Rattle.std.specs.Prelude.{◌≡◌};
 ghost use Rattle.text.specs.Printed.{printed, behind};
 ghost use Rattle.library_calls.specs.Lines.{nothing, turn_of};
@@ -11,7 +13,7 @@ pub mod messages;
 pub mod schedules;
 
 // What is kept from line to line.
-#[derive(Drop)]
+#[derive(Clone, Copy)]
 pub struct Kept {
     pub budget: budgets::Kept,
     pub schedule: BlastSchedule,
@@ -28,7 +30,7 @@ pub fn nothing() -> Kept
 }
 
 // Whether the line is a call of these libraries, what is kept after it, and where its answer ends in the buffer.
-#[derive(Drop)]
+#[derive(Clone, Copy)]
 pub struct Answered {
     pub found: bool,
     pub kept: Kept,

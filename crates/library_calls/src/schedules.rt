@@ -8,7 +8,7 @@ use call_table::Said;
 use schedule::{BlastSchedule, NewlyDue};
 
 // The schedule after a call, and what is said of it.
-#[derive(Drop)]
+#[derive(Clone, Copy)]
 pub struct Turn {
     pub schedule: BlastSchedule,
     pub said: Said,
@@ -84,7 +84,7 @@ fn respond(s: BlastSchedule, row: usize, w: [u64; 8]) -> Turn
 }
 
 // Whether the line is one of these calls, the schedule, and where the answer ends in the buffer.
-#[derive(Drop)]
+#[derive(Clone, Copy)]
 pub struct Answered {
     pub found: bool,
     pub schedule: BlastSchedule,

@@ -1,5 +1,7 @@
 // What programs that answer standard input line by line share: the next line read, and a text written. No contract can say which bytes
 // a read brings, nor whether a text was written; these say what becomes of the bytes that were brought.
+#![tactic(auto)]
+
 ghost use Rattle.std.specs.Prelude.{◌≡◌, true, ◌+◌, ◌≤◌, length, [], leb};
 ghost use Rattle.line_program.specs.Waits.{is_line, stays, waiting_after, handed_after};
 ghost use Rattle.line_program.specs.Reads.{left, has_line, refilled, Turned, NextLine};
@@ -8,7 +10,7 @@ use libc::{STDIN_FILENO, STDOUT_FILENO};
 
 // A line's bytes are the first `used` of its buffer, which a line too long fills. A line feed ended it, or the input ended, where there is
 // no `more`, or failed. The block's bytes from `from` up to `until` are still to be read.
-#[derive(Drop)]
+#[derive(Clone, Copy)]
 pub struct Reading {
     pub used: usize,
     pub ended: bool,
@@ -116,7 +118,7 @@ pub fn print(text: &[u8], n: usize) -> bool
 // ---- what waits to be written
 
 // Output that waits, from the buffer's first byte on, and whether all before it was written.
-#[derive(Drop)]
+#[derive(Clone, Copy)]
 pub struct Waiting {
     pub bytes: usize,
     pub written: bool,

@@ -1,5 +1,7 @@
 // Lines out of blocks of input. A line is gathered in a lent buffer as long as the longest line with its line feed, so a line that fills
 // the buffer is too long.
+#![tactic(auto)]
+
 ghost use Rattle.std.specs.Prelude.{◌≡◌, List, ◌++◌, ℕ, ◌<◌, ◌≤◌, length, take};
 ghost use Rattle.text.specs.Printed.{printed, behind};
 ghost use Rattle.lines.specs.Lines.{text_from, gathered};
@@ -8,7 +10,7 @@ ghost use Rattle.lines.specs.Lines.{text_from, gathered};
 pub const LONGEST: usize = 32768;
 
 // How many bytes of the buffer the line has filled, where the block goes on, and whether a line feed ended the line.
-#[derive(Drop)]
+#[derive(Clone, Copy)]
 pub struct Gathered {
     pub used: usize,
     pub next: usize,

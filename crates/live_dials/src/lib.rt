@@ -1,6 +1,8 @@
 // Dropping the dials of a connect attempt (`abort_attempt_dials` of ledger.rs), over the live connections as a lent slice of records.
 // The borrow checker covers no function with a reference to a slice of structs: `first_live`, `first_lives` and `abort_attempt_dials` are
 // proved by hand, walking their code. The others are covered.
+#![tactic(auto)]
+
 ghost use Rattle.std.specs.Prelude.{◌≡◌, ◌<◌, get_or, set};
 ghost use Rattle.rows.specs.declared.Table.TheVariants.{Dials};
 ghost use Rattle.rows.specs.Rows.{capacity};
@@ -14,13 +16,13 @@ use ids::{ConnectId, ConnectionId, PeerId};
 use rows::{Ledger, ROWS, Table};
 
 // A live connection of a peer.
-#[derive(Drop)]
+#[derive(Clone, Copy)]
 pub struct Live {
     pub peer: PeerId,
     pub connection: ConnectionId,
 }
 
-#[derive(Drop)]
+#[derive(Clone, Copy)]
 pub enum Found {
     At(ConnectionId),
     Nothing,
@@ -49,7 +51,7 @@ pub fn first_live(live: &[Live], peer: PeerId) -> Found
 }
 
 // The peers to ask for, one for each row.
-#[derive(Drop)]
+#[derive(Clone, Copy)]
 pub struct Asked {
     pub peers: [PeerId; ROWS],
 }

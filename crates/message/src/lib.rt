@@ -1,4 +1,6 @@
 // The DCUtR HolePunch message (message.rs): written and read, with its addresses as an address list.
+#![tactic(auto)]
+
 ghost use Rattle.std.specs.Prelude.{◌≡◌, true, ◌++◌, ◌+◌, ◌≤◌, length};
 ghost use Rattle.std.proofs.lemmas.List.Edits.{sets};
 ghost use Rattle.wire.specs.Varint.{encoded};
@@ -12,7 +14,7 @@ use refusal::Refusal;
 use wire::{Entry, MAX_MESSAGE_SIZE};
 
 // The type of a message: CONNECT is 100, SYNC is 300.
-#[derive(Drop)]
+#[derive(Clone, Copy)]
 pub enum Kind {
     Connect,
     Sync,
@@ -20,13 +22,13 @@ pub enum Kind {
 
 // ---- Reading
 
-#[derive(Drop)]
+#[derive(Clone, Copy)]
 pub enum Decoded {
     Message { kind: Kind, size: usize },
     Refused(Refusal),
 }
 
-#[derive(Drop)]
+#[derive(Clone, Copy)]
 enum Measured {
     Good { kind: u64, size: usize },
     Refused(Refusal),
@@ -144,7 +146,7 @@ pub fn decode(message: &[u8], out: &mut [u8]) -> Decoded
 
 // ---- Writing
 
-#[derive(Drop)]
+#[derive(Clone, Copy)]
 pub enum Encoded {
     Message(usize),
     Refused(Refusal),

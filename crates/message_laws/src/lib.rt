@@ -1,4 +1,6 @@
 // Laws of the message (message.rs): what is written is read, and each answer is that of the tables in sections 2 and 3 of docs/RULES.md.
+#![tactic(auto)]
+
 ghost use Rattle.std.specs.Prelude.{◌≡◌, List, ◌++◌, ℕ, ◌+◌, ◌<◌, ◌≤◌, length, take, drop, get_or};
 ghost use Rattle.refusal.specs.declared.Refusal.{Refusal};
 ghost use Rattle.wire.specs.Frame.{max_message_size};

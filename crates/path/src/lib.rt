@@ -1,11 +1,13 @@
 // How a connection came, whose it is, and why it was dialed (ledger.rs and types.rs); the order in which that is judged.
+#![tactic(auto)]
+
 ghost use Rattle.std.specs.Prelude.{◌≡◌};
 ghost use Rattle.path.specs.Judged.{circuit_path, by_window, by_claim, by_dial, direct_path, judged, is_relayed, punched_at, is_owned, upgrade_of};
 
 use ids::{ConnectId, NatToken, PeerId};
 
 // By which path a connection reached its peer.
-#[derive(Drop)]
+#[derive(Clone, Copy)]
 pub enum Path {
     Relayed { relay: PeerId },
     Punched,
@@ -13,21 +15,21 @@ pub enum Path {
 }
 
 // The machine that a path belongs to: a connect attempt, an inbound circuit, or no one.
-#[derive(Drop)]
+#[derive(Clone, Copy)]
 pub enum Owner {
     Attempt(ConnectId),
     Inbound,
     None,
 }
 
-#[derive(Drop)]
+#[derive(Clone, Copy)]
 pub struct Attribution {
     pub path: Path,
     pub owner: Owner,
 }
 
 // Why a connection was dialed. Of a relay its handle is known, not its address.
-#[derive(Drop)]
+#[derive(Clone, Copy)]
 pub enum DialPurpose {
     Relay(ConnectId, PeerId),
     Punch(ConnectId),
@@ -35,26 +37,26 @@ pub enum DialPurpose {
     Reserve(PeerId),
 }
 
-#[derive(Drop)]
+#[derive(Clone, Copy)]
 pub struct Dial {
     pub token: NatToken,
     pub purpose: DialPurpose,
 }
 
-#[derive(Drop)]
+#[derive(Clone, Copy)]
 pub enum FoundDial {
     At(Dial),
     None,
 }
 
-#[derive(Drop)]
+#[derive(Clone, Copy)]
 pub enum FoundPath {
     At(Attribution),
     None,
 }
 
 // What a machine claims about a connection as it is established.
-#[derive(Drop)]
+#[derive(Clone, Copy)]
 pub enum Claim {
     None,
     // The circuit that its owner promoted through the relay.
@@ -64,7 +66,7 @@ pub enum Claim {
 }
 
 // Leaving a relay for a direct connection: reported against the owner of the relayed path.
-#[derive(Drop)]
+#[derive(Clone, Copy)]
 pub enum Replaced {
     Upgrade { owner: Owner, from: Path, to: Path },
     None,

@@ -1,4 +1,6 @@
 // The fields of a HolePunch message, by their tags (the protobuf encoding; message.rs).
+#![tactic(auto)]
+
 ghost use Rattle.std.specs.Prelude.{◌≡◌, ◌≤◌};
 ghost use Rattle.wire.specs.Varint.{varint_of};
 ghost use Rattle.protobuf.specs.Fields.{varint_field, fixed_field, bytes_field, payload_of, field_of};
@@ -9,7 +11,7 @@ use wire::Varint;
 const MAX_FIELD: u64 = 536_870_911;
 
 // What a field says: the type of the message, where the bytes of an address stand, or neither; and how long it is.
-#[derive(Drop)]
+#[derive(Clone, Copy)]
 pub enum Field {
     Typed { value: u64, size: usize },
     Address { start: usize, len: usize },

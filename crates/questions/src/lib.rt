@@ -1,4 +1,6 @@
 // What a circuit is asked (inbound.rs: `is_done`, `promotes`, `circuit_claim`, `next_deadline`).
+#![tactic(auto)]
+
 ghost use Rattle.std.specs.Prelude.{◌≡◌};
 ghost use Rattle.circuit.specs.State.{is_done};
 ghost use Rattle.questions.specs.Questions.{promoted, promotes_of, claim_of, next_deadline_at};

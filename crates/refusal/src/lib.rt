@@ -1,8 +1,10 @@
 // Why a call is turned back. Every layer answers with this one type, so that each case has its number in one place.
+#![tactic(auto)]
+
 ghost use Rattle.std.specs.Prelude.{◌≡◌};
 ghost use Rattle.refusal.specs.Number.{number_of};
 
-#[derive(Drop)]
+#[derive(Clone, Copy)]
 pub enum Refusal {
     ReplyBufferTooShort,
     OfferInUse,

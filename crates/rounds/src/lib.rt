@@ -1,4 +1,6 @@
 // The next round, or the upgrade's end (inbound.rs, `open_round` and `fail_round`).
+#![tactic(auto)]
+
 ghost use Rattle.std.specs.Prelude.{◌≡◌};
 ghost use Rattle.rounds.specs.Rounds.{no_round, open_stream, is_live, open_round, fail_round};
 

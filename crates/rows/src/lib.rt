@@ -1,5 +1,7 @@
 // The path ledger's three tables, as words that the host lends. A table is the count of its rows in use, and behind it 64 places of five
 // words each, the rows in use first. Any words are a ledger: a count past 64 counts as 64. No other crate knows how rows lie.
+#![tactic(auto)]
+
 ghost use Rattle.std.specs.Prelude.{◌≡◌, ◌++◌, ◌≤◌, ◌<◌, ◌+◌, ◌-◌, length, set, get_or, take, drop, replicate};
 ghost use Rattle.prelude.specs.Choice.{no};
 ghost use Rattle.rows.specs.Rows.{capacity, keeps_row, kept, find_in, without, crowded, marked, marks_by};
@@ -19,7 +21,7 @@ const TABLE_WORDS: usize = 1 + 5 * ROWS;
 pub type Ledger = [u64; 3 * TABLE_WORDS];
 
 // In the order in which they stand.
-#[derive(Drop)]
+#[derive(Clone, Copy)]
 pub enum Table {
     // Started dials, by connection.
     Dials,
@@ -29,14 +31,14 @@ pub enum Table {
     Paths,
 }
 
-#[derive(Drop)]
+#[derive(Clone, Copy)]
 pub enum Found {
     At(Entry),
     Nothing,
 }
 
 // Which rows are kept.
-#[derive(Drop)]
+#[derive(Clone, Copy)]
 pub enum Keep {
     Below(u64),
     Above(u64),
@@ -45,7 +47,7 @@ pub enum Keep {
 }
 
 // For each place whether its row is kept.
-#[derive(Drop)]
+#[derive(Clone, Copy)]
 pub struct Marks {
     pub keep: [bool; ROWS],
 }

@@ -1,11 +1,13 @@
 // The instants of a window at which the chosen addresses are sent to (inbound.rs, BlastSchedule), counted without a loop.
+#![tactic(auto)]
+
 ghost use Rattle.std.specs.Prelude.{◌≡◌, ℕ, ◌+◌, ◌*◌, ◌≤◌, ◌<◌, min, max, List, length, get_or, drop};
 ghost use Rattle.time.specs.Time.{last};
 ghost use Rattle.schedule.specs.Instants.{half_of, start_of, instants, count_to};
 ghost use Rattle.schedule.specs.Schedule.{schedule_of, due_of, window_of, opened_of, next_of};
 ghost use Rattle.schedule.specs.Readings.{none, largest_of, counted, sum_all, Once, FirstWithReply};
 
-#[derive(Drop)]
+#[derive(Clone, Copy)]
 pub enum BlastSchedule {
     // The next instant, and the window's end.
     Next { at: u64, until: u64 },
@@ -14,7 +16,7 @@ pub enum BlastSchedule {
 }
 
 // The schedule moved on, and the count of the instants passed.
-#[derive(Drop)]
+#[derive(Clone, Copy)]
 pub struct NewlyDue {
     pub schedule: BlastSchedule,
     pub times: u64,

@@ -1,4 +1,6 @@
 // Laws of text: what is printed is read, and only that (section 12.3 of docs/RULES.md).
+#![tactic(auto)]
+
 ghost use Rattle.std.specs.Prelude.{◌≡◌, true, List, ℕ, ◌≤◌};
 ghost use Rattle.prelude.specs.Numbers.{max_u64};
 ghost use Rattle.text.specs.Decimal.{decimal_of, decimal};

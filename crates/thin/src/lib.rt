@@ -1,4 +1,6 @@
 // Calls on a circuit behind `&mut`: each takes it out, makes the call by value, and stores the circuit that this leaves.
+#![tactic(auto)]
+
 ghost use Rattle.std.specs.Prelude.{◌≡◌, true, List, ℕ};
 ghost use Rattle.ids.specs.declared.PeerId.{PeerId};
 ghost use Rattle.ids.specs.declared.ConnectionId.{ConnectionId};

@@ -1,4 +1,6 @@
 // Times are milliseconds of 64 bits; sums and differences stop at the ends of that range.
+#![tactic(auto)]
+
 ghost use Rattle.std.specs.Prelude.{◌≡◌, ◌-◌, min};
 ghost use Rattle.time.specs.Time.{plus};
 

@@ -1,8 +1,10 @@
 // The words of calls and answers (config.rs, types.rs, events.rs and swarm.rs of nat, as far as a circuit uses them).
+#![tactic(auto)]
+
 use ids::{ConnectionId, PeerId, StreamId};
 use refusal::Refusal;
 
-#[derive(Drop)]
+#[derive(Clone, Copy)]
 pub struct Settings {
     pub handshake: u64,
     pub upgrade: u64,
@@ -17,20 +19,20 @@ pub struct Settings {
 // ---- what the host answers within a call
 
 // The source's current connection.
-#[derive(Drop)]
+#[derive(Clone, Copy)]
 pub enum Live {
     Nothing,
     On(ConnectionId),
 }
 
 // The stream that an opening would get.
-#[derive(Drop)]
+#[derive(Clone, Copy)]
 pub enum Offer {
     Nothing,
     Stream(ConnectionId, StreamId),
 }
 
-#[derive(Drop)]
+#[derive(Clone, Copy)]
 pub struct Host {
     pub at: u64,
     pub live: Live,
@@ -38,7 +40,7 @@ pub struct Host {
 }
 
 // What a stream brings; an end of either kind closes it.
-#[derive(Drop)]
+#[derive(Clone, Copy)]
 pub enum StreamInput {
     Ready,
     Data,
@@ -48,7 +50,7 @@ pub enum StreamInput {
 
 // ---- what is answered
 
-#[derive(Drop)]
+#[derive(Clone, Copy)]
 pub enum Effect {
     Nothing,
     Path {
@@ -82,14 +84,14 @@ pub enum Effect {
     },
 }
 
-#[derive(Drop)]
+#[derive(Clone, Copy)]
 pub enum Outcome {
     Accepted,
     Refused(Refusal),
 }
 
 // When to call next, if at all.
-#[derive(Drop)]
+#[derive(Clone, Copy)]
 pub enum Deadline {
     At(u64),
     None,

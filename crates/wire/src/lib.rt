@@ -1,4 +1,6 @@
 // Bytes on the wire: protobuf's varints, the frame around a message, and lists of addresses as the host hands them over.
+#![tactic(auto)]
+
 ghost use Rattle.std.specs.Prelude.{◌≡◌, false, ◌+◌, ◌<◌, ◌≤◌, length, get_or, take};
 ghost use Rattle.std.proofs.lemmas.List.Edits.{sets};
 ghost use Rattle.wire.specs.Varint.{span_of, value_of, varint_of, encoded};
@@ -7,7 +9,7 @@ ghost use Rattle.wire.specs.Lists.{entry_at, broken, entry};
 
 // ---- Varints
 
-#[derive(Drop)]
+#[derive(Clone, Copy)]
 pub enum Varint {
     Value { value: u64, next: usize },
     Malformed,
@@ -104,7 +106,7 @@ pub const MAX_MESSAGE_SIZE: usize = 4096;
 // The most bytes of a frame: two of length, then the message.
 pub const MAX_FRAME_SIZE: usize = 4098;
 
-#[derive(Drop)]
+#[derive(Clone, Copy)]
 pub enum Frame {
     More,
     Whole { start: usize, len: usize },
@@ -182,7 +184,7 @@ pub fn decode_frame(buffer: &[u8], count: usize) -> Frame
 // ---- Address lists
 
 // What stands at a place of an address list.
-#[derive(Drop)]
+#[derive(Clone, Copy)]
 pub enum Entry {
     Address { start: usize, end: usize },
     Broken,

@@ -1,4 +1,6 @@
 // Laws of the wire: what is written is read, and what is read is what section 2, 4 and 5 of docs/RULES.md say of the bytes.
+#![tactic(auto)]
+
 ghost use Rattle.std.specs.Prelude.{◌≡◌, false, List, [], ◌∷◌, ◌++◌, ℕ, ◌+◌, ◌<◌, ◌≤◌, ◌^◌, length, get_or, take};
 ghost use Rattle.wire.specs.Varint.{varint_of, encoded};
 ghost use Rattle.wire_laws.specs.Bytes.{IsVarint, sum};

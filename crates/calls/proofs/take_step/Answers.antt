@@ -1,0 +1,16 @@
+use native.Mathlib.Omega.{arith}
+use lib.ListN.{length-take}
+use borrow.Author.Rules.{rules}
+use Rattle.text.proofs.Printing.{laid_none}
+use Rattle.call_lines.proofs.Turning.{told, as_told}
+use Rattle.calls.proofs.Stepping.{step_line, step_none, step_told}
+use Rattle.calls.proofs.take_step.Goals as goal
+
+pub slice_bounds-answer_line-end-then-is_line : goal.slice_bounds-answer_line-end-then-is_line
+slice_bounds-answer_line-end-then-is_line c = simp length-take (omega (arith, c.next_line-s.ensures.used))
+
+pub returns-then-is_line : goal.returns-then-is_line
+returns-then-is_line c = step_told (as_told _ (step_line c.args.kept _ _ c.next_line-s.result c.is_line.ensures c.if-is_line.true) c.answer_line-a.ensures) c.next_line-s.ensures.block.1
+
+pub returns : goal.returns
+returns c = step_told (told _ (step_none c.args.kept _ _ c.next_line-s.result c.is_line.ensures c.if-is_line.false) (laid_none _ 0)) c.next_line-s.ensures.block.1

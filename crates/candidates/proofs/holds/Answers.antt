@@ -1,0 +1,42 @@
+-- `candidates::holds` meets its contract: the invariant: the list holds the address just where what is left of it does.
+use mathlib.Core.Path.{◌≡◌, refl}
+use Prim.Native.Nat.{◌≤◌, ◌-◌}
+use native.Mathlib.Omega.{arith}
+use borrow.Author.Rules.{rules}
+use lib.ListN.{length, drop}
+use Rattle.wire.specs.Lists.{entries}
+use Rattle.wire.proofs.Entries.{AddressAt, stands, entries_end, entries_break}
+use Rattle.candidates.specs.Entries.{contains}
+use Rattle.candidates.proofs.Loops.{holds_on, holds_here, holds_not}
+use Rattle.candidates.proofs.holds.Goals as goal
+
+-- the entry that was found
+here : (c : tie.After-e invariant-loop decreases-loop) → AddressAt c.before.before.before.before.before.before.args.list.now c.before.before.before.loop.at c.e.given.0.0 c.e.given.0.1.0
+here c = stands _ _ c.e.given.1 c.before.before.entry_at.ensures
+
+pub loop-start-init : goal.loop-start-init
+loop-start-init c = (omega arith, refl)
+
+pub returns-in-End : goal.returns-in-End
+returns-in-End c = holds_not c.args.a.now c.args.list.now c.loop-start.at c.loop-start.invariant.1 (entries_end _ _ c.enum_told-1.given.1 c.entry_at-e.ensures)
+
+pub returns-in-Broken : goal.returns-in-Broken
+returns-in-Broken c = holds_not c.args.a.now c.args.list.now c.loop-start.at c.loop-start.invariant.1 (entries_break _ _ c.enum_told-in-Broken-1.given.1 c.entry_at-e.ensures)
+
+pub slice_bounds-same_bytes-count : goal.slice_bounds-same_bytes-count
+slice_bounds-same_bytes-count c = omega (arith, here c.before)
+
+pub slice_bounds-same_bytes-start : goal.slice_bounds-same_bytes-start
+slice_bounds-same_bytes-start c = omega (arith, here c.before)
+
+pub slice_bounds-same_bytes-end : goal.slice_bounds-same_bytes-end
+slice_bounds-same_bytes-end c = omega (arith, here c.before)
+
+pub returns-then-same_bytes : goal.returns-then-same_bytes
+returns-then-same_bytes c = holds_here c.args.a.now c.args.list.now c.loop-start.at (here c.before.before.before.before) c.loop-start.invariant.1 c.same_bytes.ensures c.if-same_bytes.true
+
+pub loop-start-smaller : goal.loop-start-smaller
+loop-start-smaller c = omega (arith, here c.before.before.before.before)
+
+pub loop-start-preserved : goal.loop-start-preserved
+loop-start-preserved c = ((here c.before.before.before.before).inside, holds_on c.args.a.now c.args.list.now c.loop-start.at (here c.before.before.before.before) c.loop-start.invariant.1 c.same_bytes.ensures c.if-same_bytes.false)

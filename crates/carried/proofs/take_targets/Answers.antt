@@ -1,0 +1,16 @@
+use Rattle.carried.specs.Carried.{targets_after}
+use mathlib.Core.Path.{sym}
+use borrow.Author.Rules.{rules}
+use Rattle.carried.proofs.take_targets.Goals as goal
+
+pub returns-in-Kept : goal.returns-in-Kept
+unfolding targets_after
+returns-in-Kept c = simp c.enum_told-1.given.1
+
+pub returns-in-Removed : goal.returns-in-Removed
+unfolding targets_after
+returns-in-Removed c = simp c.enum_told-in-Removed-1.given.1
+
+pub returns-in-Opened : goal.returns-in-Opened
+unfolding targets_after
+returns-in-Opened c = simp (sym c.copy_targets.ensures, c.enum_told-in-Opened-1.given.1)

@@ -1,0 +1,14 @@
+use mathlib.Core.Path.{◌∙◌}
+use Rattle.text.proofs.Printing.{laid, parts, then, length_kept}
+use Rattle.forms.proofs.Print.{same}
+use Rattle.circuit_questions.specs.Answers.{answers_text}
+use Rattle.circuit_questions.proofs.Answering.{answers_text_lem}
+use borrow.Author.Rules.{rules}
+use Rattle.circuit_questions.proofs.put_answers.Goals as goal
+
+pub shape_of-out : goal.shape_of-out
+shape_of-out c = length_kept (laid _ _ _ c.put_byte.ensures) ∙ length_kept (laid _ _ _ c.put_form-p.ensures)
+
+pub returns : goal.returns
+unfolding answers_text
+returns c = parts (then (same (answers_text_lem _ c.args.n c.args.a c.args.took c.deadline_words-d.ensures c.one_if-promotes.ensures c.one_if-claims.ensures c.one_if-taken.ensures) (laid _ _ _ c.put_form-p.ensures)) (laid _ _ _ c.put_byte.ensures))

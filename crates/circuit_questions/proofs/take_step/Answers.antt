@@ -1,0 +1,24 @@
+use native.Mathlib.Omega.{arith}
+use lib.ListN.{length-take}
+use mathlib.Core.Path.{sym, ◌∙◌}
+use Rattle.ledger.specs.Ledger.{tables_of}
+use Rattle.journal_calls.specs.Calls.{whole}
+use Rattle.circuit_questions.specs.Steps.{state}
+use Rattle.circuit_questions.proofs.Stepping.{step_made, step_left}
+use borrow.Author.Rules.{rules}
+use Rattle.circuit_questions.proofs.take_step.Goals as goal
+
+pub slice_bounds-answer_line-end-then-is_line : goal.slice_bounds-answer_line-end-then-is_line
+slice_bounds-answer_line-end-then-is_line c = simp length-take (omega (arith, c.next_line-s.ensures.used))
+
+pub returns-then-is_line : goal.returns-then-is_line
+returns-then-is_line c =
+    let a = c.args in
+    step_made _ _ (state (whole a.j a.connect.now a.targets.now (tables_of a.ledger.now) a.ledger.now a.sent.now) a.reply.now a.out.now a.handed)
+    (sym c.is_line.ensures ∙ c.if-is_line.true) c.answer_line-a.ensures c.next_line-s.ensures.block.1
+
+pub returns : goal.returns
+returns c =
+    let a = c.args in
+    step_left _ _ (state (whole a.j a.connect.now a.targets.now (tables_of a.ledger.now) a.ledger.now a.sent.now) a.reply.now a.out.now a.handed)
+    (sym c.is_line.ensures ∙ c.if-is_line.false) c.next_line-s.ensures.block.1

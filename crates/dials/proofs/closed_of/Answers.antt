@@ -1,0 +1,75 @@
+use Prim.Native.Nat.{◌≤◌, ◌-◌}
+use mathlib.Core.Path.{◌≡◌, refl, ap, sym, ◌∙◌}
+use native.Mathlib.Omega.{arith}
+use lib.ListN.{length, get_or, length-map}
+use Rattle.kinds.specs.declared.Row.{Row}
+use Rattle.rows.specs.declared.Table.TheVariants.{Dials}
+use Rattle.rows.specs.Words.{rows_of}
+use Rattle.dials.specs.declared.Connections.{Connections}
+use Rattle.dials.specs.Dials.{connections_of, closed_of, fate_at, no_first}
+use Rattle.dials.proofs.Gathered.{Gathered, none_yet, gives, gives_none, all_given, no_connection, filled_connections}
+use borrow.Author.Rules.{rules}
+use Rattle.dials.proofs.closed_of.Goals as goal
+
+pub loop-i-init : goal.loop-i-init
+unfolding connections_of
+loop-i-init c = (omega arith, none_yet (ap (λ (t : Connections). t.connections) c.no_connections-none.ensures))
+
+pub offset_bounds-firsts-i : goal.offset_bounds-firsts-i
+offset_bounds-firsts-i c = omega arith
+
+pub bounds-firsts-i : goal.bounds-firsts-i
+bounds-firsts-i c = omega arith
+
+pub overflow_add-i : goal.overflow_add-i
+overflow_add-i c = omega arith
+
+pub loop-i-smaller-in-Other : goal.loop-i-smaller-in-Other
+loop-i-smaller-in-Other c = omega arith
+
+pub loop-i-preserved-in-Other : goal.loop-i-preserved-in-Other
+loop-i-preserved-in-Other c =
+    let f64 : length c.args.t3.rows ≡ 64 = simp length-map at c.well-formed.1.1.0.1.1.0.1.0.1 in
+    let f = sym (c.fate_at-fate.ensures ∙ ap (λ (r : Row). fate_at c.args.id r (get_or c.args.t3.rows c.loop-i.i no_first)) c.row_at-row.ensures) in
+    (omega arith, gives_none c.loop-i.invariant.1 (omega arith) (omega arith) (simp (f, c.enum_told-1.given.1)))
+
+pub loop-i-smaller-in-Stays : goal.loop-i-smaller-in-Stays
+loop-i-smaller-in-Stays c = omega arith
+
+pub loop-i-preserved-in-Stays : goal.loop-i-preserved-in-Stays
+loop-i-preserved-in-Stays c =
+    let f64 : length c.args.t3.rows ≡ 64 = simp length-map at c.well-formed.1.1.0.1.1.0.1.0.1 in
+    let f = sym (c.fate_at-fate.ensures ∙ ap (λ (r : Row). fate_at c.args.id r (get_or c.args.t3.rows c.loop-i.i no_first)) c.row_at-row.ensures) in
+    (omega arith, gives_none c.loop-i.invariant.1 (omega arith) (omega arith) (simp (f, c.enum_told-in-Stays-1.given.1)))
+
+pub loop-i-smaller-in-Goes : goal.loop-i-smaller-in-Goes
+loop-i-smaller-in-Goes c = omega arith
+
+pub loop-i-preserved-in-Goes : goal.loop-i-preserved-in-Goes
+loop-i-preserved-in-Goes c =
+    let f64 : length c.args.t3.rows ≡ 64 = simp length-map at c.well-formed.1.1.0.1.1.0.1.0.1 in
+    let f = sym (c.fate_at-fate.ensures ∙ ap (λ (r : Row). fate_at c.args.id r (get_or c.args.t3.rows c.loop-i.i no_first)) c.row_at-row.ensures) in
+    (omega arith, gives_none c.loop-i.invariant.1 (omega arith) (omega arith) (simp (f, c.enum_told-in-Goes-1.given.1)))
+
+pub offset_bounds-connections-m : goal.offset_bounds-connections-m
+offset_bounds-connections-m c = omega arith
+
+pub bounds-connections-m : goal.bounds-connections-m
+bounds-connections-m c = omega arith
+
+pub overflow_add-m : goal.overflow_add-m
+overflow_add-m c = omega arith
+
+pub loop-i-smaller : goal.loop-i-smaller
+loop-i-smaller c = omega arith
+
+pub loop-i-preserved : goal.loop-i-preserved
+loop-i-preserved c =
+    let f64 : length c.args.t3.rows ≡ 64 = simp length-map at c.well-formed.1.1.0.1.1.0.1.0.1 in
+    let f = sym (c.fate_at-fate.ensures ∙ ap (λ (r : Row). fate_at c.args.id r (get_or c.args.t3.rows c.loop-i.i no_first)) c.row_at-row.ensures) in
+    (omega arith, gives c.loop-i.invariant.1 (omega arith) (omega arith) (simp (f, c.enum_told-in-Closes-1.given.1) (rw c.row_at-row.ensures refl)) (omega arith))
+
+pub returns : goal.returns
+returns c =
+    let f64 : length c.args.t3.rows ≡ 64 = simp length-map at c.well-formed.1.1.0.1.1.0.1.0.1 in
+    filled_connections (all_given c.loop-i.invariant.1 (omega arith) (omega arith))

@@ -1,0 +1,19 @@
+use Rattle.dials.specs.Dials.{stays}
+use borrow.Author.Rules.{rules}
+use Rattle.dials.proofs.stays_with.Goals as goal
+
+pub returns-in-Other : goal.returns-in-Other
+unfolding stays
+returns-in-Other c = simp c.enum_told-1.given.1
+
+pub returns-in-Stays : goal.returns-in-Stays
+unfolding stays
+returns-in-Stays c = simp c.enum_told-in-Stays-1.given.1
+
+pub returns-in-Goes : goal.returns-in-Goes
+unfolding stays
+returns-in-Goes c = simp c.enum_told-in-Goes-1.given.1
+
+pub returns-in-Closes : goal.returns-in-Closes
+unfolding stays
+returns-in-Closes c = simp c.enum_told-in-Closes-1.given.1

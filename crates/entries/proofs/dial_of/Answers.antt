@@ -1,0 +1,19 @@
+use Rattle.entries.specs.Entries.{dial_of}
+use borrow.Author.Rules.{rules}
+use Rattle.entries.proofs.dial_of.Goals as goal
+
+pub returns-in-Dialed : goal.returns-in-Dialed
+unfolding dial_of
+returns-in-Dialed c = simp c.entry-1.given.1
+
+pub returns-in-Other : goal.returns-in-Other
+unfolding dial_of
+returns-in-Other c = simp c.enum_told-1.given.1
+
+pub returns-in-Window : goal.returns-in-Window
+unfolding dial_of
+returns-in-Window c = simp c.enum_told-in-Window-1.given.1
+
+pub returns-in-Path : goal.returns-in-Path
+unfolding dial_of
+returns-in-Path c = simp c.enum_told-in-Path-1.given.1

@@ -1,0 +1,20 @@
+use Rattle.entries.specs.Entries.{sooner}
+use borrow.Author.Tests.{le-leb, lt-leb, lt-ltb, le-ltb}
+use borrow.Author.Rules.{rules}
+use Rattle.entries.proofs.sooner_of.Goals as goal
+
+pub returns-in_default : goal.returns-in_default
+unfolding sooner
+returns-in_default c = simp c.enum_told-1.given.1
+
+pub returns-in_default-b : goal.returns-in_default-b
+unfolding sooner
+returns-in_default-b c = simp (c.enum_told-in_default-b-1.given.1, c.a-1.given.1)
+
+pub returns-then-y-x : goal.returns-then-y-x
+unfolding sooner
+returns-then-y-x c = simp (lt-ltb _ _ c.if-y-x.true, lt-leb _ _ c.if-y-x.true, c.b-1.given.1, c.a-1.given.1)
+
+pub returns-else-y-x : goal.returns-else-y-x
+unfolding sooner
+returns-else-y-x c = simp (le-ltb _ _ c.if-y-x.false, le-leb _ _ c.if-y-x.false, c.b-1.given.1, c.a-1.given.1)

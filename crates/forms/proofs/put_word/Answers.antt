@@ -1,0 +1,9 @@
+use Rattle.text.proofs.Printing.{parts, byte_in, byte_out}
+use borrow.Author.Rules.{rules}
+use Rattle.forms.proofs.put_word.Goals as goal
+
+pub returns-then-n-got : goal.returns-then-n-got
+returns-then-n-got c = parts (byte_in _ _ _ c.if-n-got.true)
+
+pub returns : goal.returns
+returns c = parts (byte_out _ _ _ c.if-n-got.false)

@@ -1,0 +1,10 @@
+use Rattle.inbound.specs.Circuits.{answer_of}
+use mathlib.Core.Path.{refl}
+use Rattle.inbound.proofs.Answering.{made_answer}
+use Rattle.inbound.specs.Circuits.{tick_answer}
+use borrow.Author.Rules.{rules}
+use Rattle.inbound.proofs.InboundCircuit.on_tick.Goals as goal
+
+pub returns : goal.returns
+unfolding tick_answer answer_of
+returns c = (made_answer c.args.self.connect c.made.ensures c.on_tick-d.ensures.answer c.on_tick-d.ensures.connect.0 refl c.on_tick-d.ensures.connect.1.0 c.blank-sent.ensures, (c.on_tick-d.ensures.connect.1.1.0, c.on_tick-d.ensures.connect.1.1.1))

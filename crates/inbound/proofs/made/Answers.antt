@@ -1,0 +1,8 @@
+use Rattle.inbound.specs.Circuits.{answer_of}
+use mathlib.Core.Path.{sym}
+use borrow.Author.Rules.{rules}
+use Rattle.inbound.proofs.made.Goals as goal
+
+pub returns : goal.returns
+unfolding answer_of
+returns c = simp (sym c.message_size-len.ensures)

@@ -1,0 +1,5 @@
+use borrow.Author.Rules.{rules}
+use Rattle.inputs.proofs.frame_bytes.Goals as goal
+
+pub returns-in-Exchange : goal.returns-in-Exchange
+returns-in-Exchange c = simp c.phase-1.given.1

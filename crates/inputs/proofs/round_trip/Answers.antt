@@ -1,0 +1,16 @@
+use Rattle.inputs.specs.Inputs.{round_trip}
+use mathlib.Core.Path.{sym}
+use borrow.Author.Rules.{rules}
+use Rattle.inputs.proofs.round_trip.Goals as goal
+
+pub returns-in-Unsent : goal.returns-in-Unsent
+unfolding round_trip
+returns-in-Unsent c = simp c.enum_told-1.given.1
+
+pub returns-in-Held : goal.returns-in-Held
+unfolding round_trip
+returns-in-Held c = simp c.enum_told-in-Held-1.given.1
+
+pub returns-in-Sent : goal.returns-in-Sent
+unfolding round_trip
+returns-in-Sent c = simp (sym c.saturating_sub.ensures, c.connect-1.given.1)

@@ -1,0 +1,8 @@
+use Rattle.inputs.specs.Inputs.{window_of}
+use mathlib.Core.Path.{sym}
+use borrow.Author.Rules.{rules}
+use Rattle.inputs.proofs.window_of.Goals as goal
+
+pub returns : goal.returns
+unfolding window_of
+returns c = simp (sym c.«open».ensures, sym c.punch_window_end-until.ensures, sym c.blast_start-start.ensures, sym c.round_trip-rtt.ensures)

@@ -1,0 +1,11 @@
+use mathlib.Core.Path.{refl, ap}
+use native.Mathlib.Omega.{arith}
+use Rattle.candidates.specs.declared.Chosen.{Chosen}
+use Rattle.lines.specs.Lines.{longest}
+use Rattle.journal_text.proofs.Inputs.{zeros_long}
+use borrow.Author.Tests.{le-leb, lt-leb, lt-ltb, le-ltb, eq-eqb, ne_eqb}
+use borrow.Author.Rules.{rules}
+use Rattle.journal.proofs.main.Goals as goal
+
+pub replay-e-requires : goal.replay-e-requires
+replay-e-requires c = (zeros_long longest (omega arith), omega (arith, c.large_buffer-out.ensures), refl, c.blank-connect.ensures, ap (λ (z : Chosen). z.bytes) c.empty-none.ensures, c.blank-sent.ensures, c.empty-ledger.ensures.words, c.empty-ledger.ensures.tables)

@@ -1,0 +1,20 @@
+use native.Mathlib.Omega.{arith}
+use lib.ListN.{length-take}
+use mathlib.Core.Path.{sym, ◌∙◌}
+use Rattle.ledger.specs.Ledger.{tables_of}
+use Rattle.journal_calls.specs.Calls.{whole}
+use Rattle.journal.proofs.Stepping.{step_made, step_left}
+use borrow.Author.Rules.{rules}
+use Rattle.journal.proofs.take_step.Goals as goal
+
+pub slice_bounds-answer_line-end-then-is_line : goal.slice_bounds-answer_line-end-then-is_line
+slice_bounds-answer_line-end-then-is_line c = simp length-take (omega (arith, c.next_line-s.ensures.used))
+
+pub shape_of-block-then-is_line : goal.shape_of-block-then-is_line
+shape_of-block-then-is_line c = c.next_line-s.auto.0
+
+pub returns-then-is_line : goal.returns-then-is_line
+returns-then-is_line c = step_made _ _ _ (whole c.args.j c.args.connect.now c.args.targets.now (tables_of c.args.ledger.now) c.args.ledger.now c.args.sent.now) _ _ _ (sym c.is_line.ensures ∙ c.if-is_line.true) c.hand_over-w.ensures c.answer_line-a.ensures c.next_line-s.ensures.block.1
+
+pub returns : goal.returns
+returns c = step_left _ _ _ (whole c.args.j c.args.connect.now c.args.targets.now (tables_of c.args.ledger.now) c.args.ledger.now c.args.sent.now) _ _ _ (sym c.is_line.ensures ∙ c.if-is_line.false) c.next_line-s.ensures.block.1

@@ -1,0 +1,11 @@
+use Rattle.ledger.proofs.Laws.{laid_same}
+use mathlib.Core.Path.{refl}
+use mathlib.Core.Path.{sym}
+use borrow.Author.Rules.{rules}
+use Rattle.journal_calls.proofs.expire.Goals as goal
+
+pub returns-in-Accepted : goal.returns-in-Accepted
+returns-in-Accepted c = simp c.enum_told-1.given.1 c.on_tick.ensures
+
+pub returns-in-Refused : goal.returns-in-Refused
+returns-in-Refused c = simp c.enum_told-in-Refused-1.given.1 (refl, sym (laid_same _ c.known.ensures))

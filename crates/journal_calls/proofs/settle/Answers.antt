@@ -1,0 +1,9 @@
+use mathlib.Core.Path.{sym}
+use borrow.Author.Rules.{rules}
+use Rattle.journal_calls.proofs.settle.Goals as goal
+
+pub returns-in-Refused : goal.returns-in-Refused
+returns-in-Refused c = simp (sym c.say.ensures, c.outcome-1.given.1)
+
+pub returns-in-Accepted : goal.returns-in-Accepted
+returns-in-Accepted c = simp (sym c.effects_of-effects.ensures, c.enum_told-1.given.1)

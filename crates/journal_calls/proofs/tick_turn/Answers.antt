@@ -1,0 +1,8 @@
+use Rattle.lent.specs.Calls.{tick_of}
+use Rattle.ledger.specs.Ledger.{tables_of}
+use Rattle.journal_calls.proofs.Turning.{ticked_turn}
+use borrow.Author.Rules.{rules}
+use Rattle.journal_calls.proofs.tick_turn.Goals as goal
+
+pub returns : goal.returns
+returns c = ticked_turn c.args.j (tick_of c.args.j.core c.args.host c.args.own.now) c.args.host.at c.args.j.core.source (tables_of c.args.ledger.now) c.args.ledger.now _ c.settle.ensures c.expire.ensures c.on_tick-d.ensures

@@ -1,0 +1,8 @@
+use Rattle.journal_calls.specs.Calls.{settled_in}
+use Rattle.circuit.specs.declared.decision.Decision.{Decision}
+use mathlib.Core.Path.{◌∙◌, ap}
+use borrow.Author.Rules.{rules}
+use Rattle.journal_calls.proofs.up_turn.Goals as goal
+
+pub returns : goal.returns
+returns c = (c.settle.ensures ∙ ap (λ (z : Decision). settled_in c.args.j z z.outcome) c.on_connection_established-d.ensures.answer, c.on_connection_established-d.ensures.connect)

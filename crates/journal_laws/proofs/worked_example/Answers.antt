@@ -1,0 +1,5 @@
+use Rattle.journal_laws.proofs.Example.{nothing, example}
+use Rattle.journal_laws.proofs.worked_example.Goals as goal
+
+pub returns : goal.returns
+returns c = (nothing, example)

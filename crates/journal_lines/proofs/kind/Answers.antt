@@ -1,0 +1,14 @@
+use borrow.Author.Tests.{eq-eqb, ne_eqb}
+use Rattle.journal_lines.proofs.kind.Goals as goal
+
+pub returns-then-k-eq0 : goal.returns-then-k-eq0
+returns-then-k-eq0 c = simp (eq-eqb _ _ c.if-k-eq0.true)
+
+pub returns-then-k-eq1 : goal.returns-then-k-eq1
+returns-then-k-eq1 c = simp (eq-eqb _ _ c.if-k-eq1.true, ne_eqb _ _ c.if-k-eq0.false)
+
+pub returns-then-k-eq2 : goal.returns-then-k-eq2
+returns-then-k-eq2 c = simp (eq-eqb _ _ c.if-k-eq2.true, ne_eqb _ _ c.if-k-eq1.false, ne_eqb _ _ c.if-k-eq0.false)
+
+pub returns : goal.returns
+returns c = simp (ne_eqb _ _ c.if-k-eq2.false, ne_eqb _ _ c.if-k-eq1.false, ne_eqb _ _ c.if-k-eq0.false)

@@ -1,0 +1,11 @@
+use mathlib.Core.Path.{sym, ◌∙◌}
+use native.Mathlib.Omega.{arith}
+use Rattle.journal_lines.proofs.Made.{settings_read, settings_unread}
+use borrow.Author.Rules.{rules}
+use Rattle.journal_lines.proofs.read_settings.Goals as goal
+
+pub returns-then-read_form : goal.returns-then-read_form
+returns-then-read_form c = c.settings.ensures ∙ settings_read _ _ _ (sym c.if-read_form.true ∙ c.read_form.ensures.good) c.read_form.ensures.words (omega (arith, c.sixteen.ensures))
+
+pub returns : goal.returns
+returns c = settings_unread _ (sym c.if-read_form.false ∙ c.read_form.ensures.good)

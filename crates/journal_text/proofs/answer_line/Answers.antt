@@ -1,0 +1,11 @@
+use Rattle.ledger.specs.Ledger.{tables_of}
+use Rattle.journal_calls.specs.Calls.{whole}
+use Rattle.journal_text.proofs.Lines.{line_answered}
+use borrow.Author.Rules.{rules}
+use Rattle.journal_text.proofs.answer_line.Goals as goal
+
+pub returns : goal.returns
+returns c =
+    let a = c.args in
+    line_answered (whole a.j a.connect.now a.targets.now (tables_of a.ledger.now) a.ledger.now a.sent.now) a.reply.now a.line.now
+    a.ended a.out.now a.at _ c.take_line-t.ensures c.put_said-p.ensures

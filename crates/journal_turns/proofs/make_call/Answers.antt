@@ -1,0 +1,34 @@
+use mathlib.Core.Path.{refl}
+use Rattle.journal_calls.proofs.Turning.{all, start_left, up_left, tick_left, wrote_left, down_left, dial_left, forget_left, attribute_left, refused_left}
+use borrow.Author.Rules.{rules}
+use Rattle.journal_turns.proofs.make_call.Goals as goal
+
+pub returns-in-Start : goal.returns-in-Start
+returns-in-Start c = rw c.call-1.given.1 (all c.args.j c.args.connect.now c.args.targets.now c.args.ledger.now c.args.sent.now c.known.ensures _ (start_left c.args.j c.args.connect.now c.args.targets.now c.args.ledger.now c.args.sent.now c.known.ensures _ _ _ _ c.start_turn.ensures), refl)
+
+pub returns-in-Up : goal.returns-in-Up
+returns-in-Up c = rw c.call-in-Up-1.given.1 (all c.args.j c.args.connect.now c.args.targets.now c.args.ledger.now c.args.sent.now c.known.ensures _ (up_left c.args.j c.args.connect.now c.args.targets.now c.args.ledger.now c.args.sent.now c.known.ensures _ _ _ _ _ c.up_line.ensures), refl)
+
+pub returns-in-Input : goal.returns-in-Input
+returns-in-Input c = rw c.call-in-Input-1.given.1 c.input_line.ensures
+
+pub returns-in-Tick : goal.returns-in-Tick
+returns-in-Tick c = rw c.call-in-Tick-1.given.1 (all c.args.j c.args.connect.now c.args.targets.now c.args.ledger.now c.args.sent.now c.known.ensures _ (tick_left c.args.j c.args.connect.now c.args.targets.now c.args.ledger.now c.args.sent.now c.known.ensures _ _ c.tick_line.ensures), refl)
+
+pub returns-in-Wrote : goal.returns-in-Wrote
+returns-in-Wrote c = rw c.call-in-Wrote-1.given.1 (all c.args.j c.args.connect.now c.args.targets.now c.args.ledger.now c.args.sent.now c.known.ensures _ (wrote_left c.args.j c.args.connect.now c.args.targets.now c.args.ledger.now c.args.sent.now c.known.ensures _ _ _ c.wrote_turn.ensures), refl)
+
+pub returns-in-Down : goal.returns-in-Down
+returns-in-Down c = rw c.call-in-Down-1.given.1 (all c.args.j c.args.connect.now c.args.targets.now c.args.ledger.now c.args.sent.now c.known.ensures _ (down_left c.args.j c.args.connect.now c.args.targets.now c.args.ledger.now c.args.sent.now c.known.ensures _ c.down_turn.ensures), refl)
+
+pub returns-in-Dial : goal.returns-in-Dial
+returns-in-Dial c = rw c.call-in-Dial-1.given.1 (all c.args.j c.args.connect.now c.args.targets.now c.args.ledger.now c.args.sent.now c.known.ensures _ (dial_left c.args.j c.args.connect.now c.args.targets.now c.args.ledger.now c.args.sent.now c.known.ensures _ _ _ c.dial_turn.ensures), refl)
+
+pub returns-in-Forget : goal.returns-in-Forget
+returns-in-Forget c = rw c.call-in-Forget-1.given.1 (all c.args.j c.args.connect.now c.args.targets.now c.args.ledger.now c.args.sent.now c.known.ensures _ (forget_left c.args.j c.args.connect.now c.args.targets.now c.args.ledger.now c.args.sent.now c.known.ensures _ c.forget_turn.ensures), refl)
+
+pub returns-in-Attribute : goal.returns-in-Attribute
+returns-in-Attribute c = rw c.call-in-Attribute-1.given.1 (all c.args.j c.args.connect.now c.args.targets.now c.args.ledger.now c.args.sent.now c.known.ensures _ (attribute_left c.args.j c.args.connect.now c.args.targets.now c.args.ledger.now c.args.sent.now c.known.ensures _ _ _ _ c.attribute_turn.ensures), refl)
+
+pub returns-in-Unknown : goal.returns-in-Unknown
+returns-in-Unknown c = rw c.enum_told-1.given.1 (all c.args.j c.args.connect.now c.args.targets.now c.args.ledger.now c.args.sent.now c.known.ensures _ (refused_left c.args.j c.args.connect.now c.args.targets.now c.args.ledger.now c.args.sent.now c.known.ensures _ c.say.ensures), refl)

@@ -1,0 +1,9 @@
+use Rattle.journal_turns.proofs.Digits.{read_none, read_some}
+use borrow.Author.Rules.{rules}
+use Rattle.journal_turns.proofs.read_digits.Goals as goal
+
+pub returns-then-end-start : goal.returns-then-end-start
+returns-then-end-start c = read_none c.args.line.now c.args.digits.start c.args.digits.end c.least-end.ensures c.args.out.now c.if-end-start.true
+
+pub returns : goal.returns
+returns c = read_some c.args.line.now c.args.digits.start c.args.digits.end c.least-end.ensures _ c.read_hexadecimal.ensures

@@ -1,0 +1,15 @@
+use Rattle.kinds.specs.Kinds.{owned_numbers}
+use borrow.Author.Rules.{rules}
+use Rattle.kinds.proofs.owned_row.Goals as goal
+
+pub returns-in-None : goal.returns-in-None
+unfolding owned_numbers
+returns-in-None c = simp c.enum_told-1.given.1
+
+pub returns-in-Inbound : goal.returns-in-Inbound
+unfolding owned_numbers
+returns-in-Inbound c = simp c.enum_told-in-Inbound-1.given.1
+
+pub returns-in-Attempt : goal.returns-in-Attempt
+unfolding owned_numbers
+returns-in-Attempt c = simp c.owner-1.given.1

@@ -1,0 +1,16 @@
+use Rattle.kinds.specs.Kinds.{path_numbers}
+use mathlib.Core.Path.{sym}
+use borrow.Author.Rules.{rules}
+use Rattle.kinds.proofs.path_row.Goals as goal
+
+pub returns-in-Relayed : goal.returns-in-Relayed
+unfolding path_numbers
+returns-in-Relayed c = simp (sym c.owned_row.ensures, c.path-1.given.1)
+
+pub returns-in-Punched : goal.returns-in-Punched
+unfolding path_numbers
+returns-in-Punched c = simp (sym c.owned_row-in-Punched.ensures, c.enum_told-1.given.1)
+
+pub returns-in-Direct : goal.returns-in-Direct
+unfolding path_numbers
+returns-in-Direct c = simp (sym c.owned_row-in-Direct.ensures, c.enum_told-in-Direct-1.given.1)

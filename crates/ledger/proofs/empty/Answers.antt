@@ -1,0 +1,8 @@
+use mathlib.Core.Path.{ap}
+use Rattle.ledger.specs.Ledger.{empty_ledger, tables_of}
+use borrow.Author.Rules.{rules}
+use Rattle.ledger.proofs.empty.Goals as goal
+
+pub returns : goal.returns
+unfolding empty_ledger
+returns c = (ap tables_of c.empty.ensures, c.empty.ensures)

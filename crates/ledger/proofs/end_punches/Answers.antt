@@ -1,0 +1,10 @@
+use Rattle.rows.specs.declared.Keep.TheVariants.{Other}
+use Rattle.rows.specs.Rows.{keeps_row}
+use Rattle.ledger.specs.Ledger.{end_punches}
+use Rattle.ledger.proofs.Laws.{windows_such}
+use borrow.Author.Rules.{rules}
+use Rattle.ledger.proofs.end_punches.Goals as goal
+
+pub returns : goal.returns
+unfolding end_punches
+returns c = windows_such c.args.l.now c.known.ensures (keeps_row (Other c.args.peer.0)) c.remove.ensures

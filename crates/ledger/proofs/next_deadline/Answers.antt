@@ -1,0 +1,7 @@
+use Rattle.ledger.specs.Ledger.{next_deadline}
+use borrow.Author.Rules.{rules}
+use Rattle.ledger.proofs.next_deadline.Goals as goal
+
+pub returns : goal.returns
+unfolding next_deadline
+returns c = c.soonest_end.ensures

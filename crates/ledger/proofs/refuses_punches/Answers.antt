@@ -1,0 +1,7 @@
+use Rattle.ledger.specs.Ledger.{refuses_punches}
+use borrow.Author.Rules.{rules}
+use Rattle.ledger.proofs.refuses_punches.Goals as goal
+
+pub returns : goal.returns
+unfolding refuses_punches
+returns c = c.is_crowded.ensures

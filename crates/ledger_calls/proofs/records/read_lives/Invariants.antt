@@ -1,0 +1,16 @@
+use mathlib.Core.Path.{◌≡◌, refl}
+use Prim.Native.Nat.{◌≤◌, ◌-◌}
+use native.Mathlib.Omega.{arith}
+use lib.ListN.{length, take, length-set, length-replicate}
+use Rattle.live_dials.specs.declared.Live.{Live}
+use Rattle.live_dials.specs.First.{no_live}
+use Rattle.ledger_calls.specs.Records.{up_to}
+use Rattle.ledger_calls.proofs.Numbers.{lives, live_next, lives_all}
+use borrow.Author.Rules.{rules}
+use Rattle.ledger_calls.proofs.records.read_lives.Given as goal
+
+abbrev pub invariant-loop-k : goal.invariant-loop-k
+invariant-loop-k l = (l.k ≤ l.n) × (length l.rows ≡ 1024) × (take l.k l.rows ≡ up_to (lives l.s) l.k)
+
+abbrev pub decreases-loop-k : goal.decreases-loop-k
+decreases-loop-k l = l.n - l.k

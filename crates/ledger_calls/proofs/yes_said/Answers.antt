@@ -1,0 +1,9 @@
+use mathlib.Core.Path.{◌∙◌}
+use borrow.Author.Rules.{rules}
+use Rattle.ledger_calls.proofs.yes_said.Goals as goal
+
+pub returns-then-yes : goal.returns-then-yes
+returns-then-yes c = c.say.ensures ∙ rw c.if-yes.true
+
+pub returns : goal.returns
+returns c = c.say-2.ensures ∙ rw c.if-yes.false

@@ -1,0 +1,5 @@
+use Rattle.ledger_laws.proofs.Names.{other_window, other_closed}
+use Rattle.ledger_laws.proofs.window_is_its_peers.Goals as goal
+
+pub returns : goal.returns
+returns c = (other_closed, other_window)

@@ -1,0 +1,10 @@
+use mathlib.Core.Path.{◌∙◌, ap}
+use Rattle.candidates.specs.declared.Chosen.{Chosen}
+use borrow.Author.Rules.{rules}
+use Rattle.lent.proofs.calls.clear.Goals as goal
+
+pub returns : goal.returns
+returns c = (
+  c.copy_frame.ensures ∙ c.blank-frame.ensures,
+  c.copy_targets.ensures ∙ ap (λ (z : Chosen). z.bytes) c.empty-none.ensures,
+)

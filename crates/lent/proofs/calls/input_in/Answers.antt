@@ -1,0 +1,22 @@
+use Rattle.lent.proofs.Hears.{short_left, turned_left, heard_left, unheard_left}
+use Rattle.carried.specs.Carried.{targets_after}
+use Rattle.lent.specs.Calls.{input_in}
+use Rattle.lent.specs.Calls.{buffer_after}
+use borrow.Author.Rules.{rules}
+use Rattle.lent.proofs.calls.input_in.Goals as goal
+
+pub returns-then-buffer-lt-MAX_FRAME_SIZE : goal.returns-then-buffer-lt-MAX_FRAME_SIZE
+unfolding buffer_after input_in targets_after
+returns-then-buffer-lt-MAX_FRAME_SIZE c = short_left c.args.c _ c.args.host c.args.targets.now c.args.buffer.now c.args.stream c.args.input c.args.bytes.now c.args.pending c.args.own.now c.if-buffer-lt-MAX_FRAME_SIZE.true c.refused.ensures
+
+pub returns-in-Refused : goal.returns-in-Refused
+unfolding buffer_after input_in targets_after
+returns-in-Refused c = turned_left c.args.c _ c.args.host c.args.targets.now c.args.buffer.now c.args.stream c.args.input c.args.bytes.now c.args.pending c.args.own.now c.if-buffer-lt-MAX_FRAME_SIZE.false c.checked-check.ensures c.check-1.given.1 c.refused-in-Refused.ensures
+
+pub returns-then-awaits_reply : goal.returns-then-awaits_reply
+unfolding buffer_after input_in targets_after
+returns-then-awaits_reply c = heard_left c.args.c _ c.args.host c.args.targets.now c.args.buffer.now c.args.stream c.args.input c.args.bytes.now c.args.pending c.args.own.now c.if-buffer-lt-MAX_FRAME_SIZE.false c.checked-check.ensures c.enum_told-1.given.1 c.awaits_reply.ensures c.if-awaits_reply.true c.hear.ensures
+
+pub returns-in-Accepted : goal.returns-in-Accepted
+unfolding buffer_after input_in targets_after
+returns-in-Accepted c = unheard_left c.args.c _ c.args.host c.args.targets.now c.args.buffer.now c.args.stream c.args.input c.args.bytes.now c.args.pending c.args.own.now c.if-buffer-lt-MAX_FRAME_SIZE.false c.checked-check.ensures c.enum_told-1.given.1 c.awaits_reply.ensures c.if-awaits_reply.false c.input.ensures

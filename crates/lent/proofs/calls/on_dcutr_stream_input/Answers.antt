@@ -1,0 +1,12 @@
+use Rattle.lent.specs.Calls.{input_of}
+use Rattle.circuit.specs.State.{terms_of}
+use Rattle.lent.proofs.Hears.{done_input}
+use borrow.Author.Rules.{rules}
+use Rattle.lent.proofs.calls.on_dcutr_stream_input.Goals as goal
+
+pub returns : goal.returns
+unfolding input_of
+returns c =
+    let a = c.args in
+    done_input (terms_of a.c.settings) a.own.now a.connect.now a.sent.now a.ledger.now a.c.source a.targets.now _ a.c a.host.at
+    a.buffer.now a.stream a.input a.bytes.now c.input_in-d.ensures c.terms-terms.ensures c.carry_out.ensures

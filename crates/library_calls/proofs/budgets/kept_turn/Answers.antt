@@ -1,0 +1,9 @@
+use mathlib.Core.Path.{sym}
+use borrow.Author.Rules.{rules}
+use Rattle.library_calls.proofs.budgets.kept_turn.Goals as goal
+
+pub returns-in-Unarmed : goal.returns-in-Unarmed
+returns-in-Unarmed c = simp (sym c.say.ensures, c.enum_told-1.given.1)
+
+pub returns-in-Armed : goal.returns-in-Armed
+returns-in-Armed c = simp (sym c.armed.ensures, c.kept-1.given.1)

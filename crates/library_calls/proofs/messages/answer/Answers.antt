@@ -1,0 +1,7 @@
+use borrow.Author.Rules.{rules}
+use Rattle.library_calls.specs.Messages.{messages_table}
+use Rattle.library_calls.proofs.messages.answer.Goals as goal
+
+pub returns : goal.returns
+unfolding messages_table
+returns c = c.answer_by.ensures

@@ -1,0 +1,8 @@
+use mathlib.Core.Path.{refl}
+use Prim.Native.Nat.{◌-◌}
+use Rattle.library_calls.specs.Messages.{filler}
+use Rattle.library_calls.proofs.messages.filled.Goals as goal
+
+pub returns : goal.returns
+unfolding filler
+returns c = refl

@@ -1,0 +1,12 @@
+use mathlib.Core.Path.{sym}
+use borrow.Author.Rules.{rules}
+use Rattle.library_calls.proofs.messages.frame.Goals as goal
+
+pub returns-in-Whole : goal.returns-in-Whole
+returns-in-Whole c = simp (sym c.say.ensures, c.start-1.given.1, sym c.decode_frame.ensures)
+
+pub returns-in-More : goal.returns-in-More
+returns-in-More c = simp (sym c.say-in-More.ensures, c.enum_told-1.given.1, sym c.decode_frame.ensures)
+
+pub returns-in-Broken : goal.returns-in-Broken
+returns-in-Broken c = simp (sym c.say-in-Broken.ensures, c.enum_told-in-Broken-1.given.1, sym c.decode_frame.ensures)

@@ -1,0 +1,7 @@
+use borrow.Author.Rules.{rules}
+use Rattle.library_calls.specs.Schedules.{schedules_table}
+use Rattle.library_calls.proofs.schedules.answer.Goals as goal
+
+pub returns : goal.returns
+unfolding schedules_table
+returns c = c.answer_by.ensures

@@ -1,0 +1,6 @@
+use native.Mathlib.Omega.{arith}
+use Rattle.text.proofs.Printing.{in_parts, in_parts_place, fits, full_place}
+use Rattle.lines.proofs.gathered_in_parts.Goals as goal
+
+pub returns : goal.returns
+returns c = (in_parts, (in_parts_place, (λ b s h. fits b s (omega arith), full_place)))

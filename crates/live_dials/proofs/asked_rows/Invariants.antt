@@ -1,0 +1,21 @@
+use Prim.Native.Nat.{◌≤◌, ◌-◌}
+use mathlib.Core.Path.{◌≡◌, refl, ap, ◌∙◌}
+use mathlib.Core.List.{List, ◌++◌, map}
+use native.Mathlib.Omega.{arith}
+use lib.ListN.{take, get_or, replicate}
+use Rattle.ids.specs.declared.PeerId.{PeerId}
+use Rattle.rows.specs.declared.Table.TheVariants.{Dials}
+use Rattle.rows.specs.Rows.{capacity}
+use Rattle.rows.specs.Words.{rows_of, no_row}
+use Rattle.rows.proofs.Lists.{map_more, map_all}
+use Rattle.dials.specs.Dials.{asked_of}
+use Rattle.live_dials.specs.declared.Asked.{Asked}
+use Rattle.live_dials.specs.Asking.{asked_rows}
+use borrow.Author.Rules.{rules}
+use Rattle.live_dials.proofs.asked_rows.Given as goal
+
+abbrev pub invariant-loop-k : goal.invariant-loop-k
+invariant-loop-k l = (l.k ≤ l.n) × (l.a.peers ≡ map (asked_of l.target) (take l.k (rows_of Dials l.l)) ++ replicate (capacity - l.k) l.target)
+
+abbrev pub decreases-loop-k : goal.decreases-loop-k
+decreases-loop-k l = l.n - l.k

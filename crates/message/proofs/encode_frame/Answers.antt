@@ -1,0 +1,64 @@
+-- `message::encode_frame` meets its contract: each answer by the message's size and the room.
+use mathlib.Core.Path.{◌≡◌, ap, ◌∙◌}
+use mathlib.Core.List.{◌++◌}
+use Prim.Native.Nat.{ℕ}
+use native.Mathlib.Omega.{arith}
+use lib.ListN.{length}
+use lib.Seq.{sets}
+use Rattle.wire.specs.Varint.{encoded}
+use Rattle.wire.specs.Lists.{entries}
+use Rattle.wire.proofs.VarintAgain.{groups_most}
+use Rattle.message.specs.Encoding.{type_field, address_fields, message_bytes, frame_bytes, encode_of, frame_encode_of, frame_encode_into}
+use Rattle.message.proofs.Answers.{message_adds, size_is, write_refused, write_short, write_done, frame_adds, frame_stored}
+use borrow.Author.Rules.{rules}
+use Rattle.message.proofs.encode_frame.Goals as goal
+
+pub overflow_add-head : goal.overflow_add-head
+unfolding encode_of
+overflow_add-head c =
+    let a = c.args in
+    let m = message_bytes a.kind (entries a.list.now) in
+    let z = size_is a.list.now m c.message_size.ensures c.size-1.given.1 in
+    omega (arith, groups_most 9 (length m), ap (λ (x : ℕ). length (encoded x)) z.1)
+
+pub returns-then-out-head : goal.returns-then-out-head
+unfolding encode_of frame_encode_of frame_encode_into
+returns-then-out-head c =
+    let a = c.args in
+    let xs = entries a.list.now in
+    let m = message_bytes a.kind xs in
+    let b = frame_bytes a.kind xs in
+    let z = size_is a.list.now m c.message_size.ensures c.size-1.given.1 in
+    let f = frame_adds m z.1 c.varint_len-head.ensures in
+    write_short a.list.now m b a.out.now c.message_size.ensures c.size-1.given.1 (omega arith)
+
+pub put_message-requires : goal.put_message-requires
+unfolding encode_of
+put_message-requires c =
+    let a = c.args in
+    let xs = entries a.list.now in
+    let m = message_bytes a.kind xs in
+    let z = size_is a.list.now m c.message_size.ensures c.size-1.given.1 in
+    let b = message_adds a.kind xs c.type_number-number.ensures in
+    let k : length c.put_varint.new.1.0 ≡ length a.out.now = c.put_varint.auto.1.0 in
+    omega arith
+
+pub returns-in-Refused : goal.returns-in-Refused
+unfolding encode_of frame_encode_of frame_encode_into
+returns-in-Refused c =
+    let a = c.args in
+    let xs = entries a.list.now in
+    write_refused a.list.now (message_bytes a.kind xs) (frame_bytes a.kind xs) a.out.now c.message_size.ensures c.why-1.given.1
+
+pub returns-else-out-head : goal.returns-else-out-head
+unfolding encode_of frame_encode_of frame_encode_into
+returns-else-out-head c =
+    let a = c.args in
+    let xs = entries a.list.now in
+    let m = message_bytes a.kind xs in
+    let b = frame_bytes a.kind xs in
+    let z = size_is a.list.now m c.message_size.ensures c.size-1.given.1 in
+    let f = frame_adds m z.1 c.varint_len-head.ensures in
+    write_done a.list.now m b a.out.now c.message_size.ensures c.size-1.given.1 (omega arith) f
+    (frame_stored a.out.now m z.1 c.varint_len-head.ensures c.put_varint.ensures
+    (c.put_message.ensures ∙ ap (λ (x : ℕ). sets c.put_varint.new.1.0 c.varint_len-head.result (type_field x ++ address_fields xs)) c.type_number-number.ensures))

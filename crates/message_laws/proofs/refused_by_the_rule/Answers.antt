@@ -1,0 +1,5 @@
+use Rattle.message_laws.proofs.ByRule.{read_told, written_told, framed_told}
+use Rattle.message_laws.proofs.refused_by_the_rule.Goals as goal
+
+pub returns : goal.returns
+returns c = (read_told, (written_told, framed_told))

@@ -1,0 +1,10 @@
+use native.Mathlib.Omega.{arith}
+use Rattle.rows.proofs.Words.{used_is}
+use borrow.Author.Rules.{rules}
+use Rattle.rows.proofs.count.Goals as goal
+
+pub returns-then-n : goal.returns-then-n
+returns-then-n c = (omega (arith, used_is c.args.b c.args.l.now), omega arith)
+
+pub returns : goal.returns
+returns c = (omega (arith, used_is c.args.b c.args.l.now), omega arith)

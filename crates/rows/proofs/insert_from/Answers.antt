@@ -1,0 +1,80 @@
+use Prim.Native.Nat.{◌≤◌, ◌<◌, ◌+◌}
+use mathlib.Core.Path.{◌≡◌, refl, ap, sym, ◌∙◌}
+use mathlib.Core.Bool.{true, false}
+use mathlib.Core.List.{List}
+use native.Mathlib.Omega.{arith}
+use borrow.Author.Tests.{leb-false}
+use lib.ListN.{length}
+use Rattle.kinds.specs.declared.Row.{Row}
+use Rattle.rows.specs.declared.Marks.{Marks}
+use Rattle.rows.specs.declared.Keep.TheVariants.{Other}
+use Rattle.rows.specs.Rows.{marked, keeps_row, without, inserted, crowded}
+use Rattle.rows.specs.Words.{at, rows_from, places_of, tabled, filled}
+use Rattle.rows.proofs.Words.{length_places}
+use Rattle.rows.proofs.Lists.{marks_such}
+use Rattle.rows.proofs.Moves.{length_filled}
+use Rattle.rows.proofs.Tables.{Holds, laid_own, settled}
+use Rattle.rows.proofs.Inserts.{between_them}
+use Rattle.rows.proofs.Laws.{length_inserted, inserted_fits}
+use borrow.Author.Rules.{rules}
+use Rattle.rows.proofs.insert_from.Goals as goal
+
+pub returns-then-is_crowded_from : goal.returns-then-is_crowded_from
+returns-then-is_crowded_from c =
+    let a = c.args in
+    let w = a.l.now in
+    let h : a.b + 321 ≤ length w = omega (arith, c.known.ensures) in
+    let e : crowded a.row.key (rows_from a.b w) ≡ true = sym c.is_crowded_from.ensures ∙ c.if-is_crowded_from.true in
+    (rw e refl, rw e (sym (laid_own a.b w h)))
+
+pub divide-m-requires : goal.divide-m-requires
+divide-m-requires c =
+    let a = c.args in
+    let rs = rows_from a.b a.l.now in
+    let e : crowded a.row.key rs ≡ false = sym c.is_crowded_from.ensures ∙ c.if-is_crowded_from.false in
+    let q : marked c.marks_from-marks.result.keep rs ≡ without a.row.key rs = ap (λ (ms : Marks). marked ms.keep rs) c.marks_from-marks.ensures ∙ marks_such (keeps_row (Other a.row.key)) rs in
+    (omega arith, omega (arith, leb-false 64 (length (without a.row.key rs)) e, c.pack-n.ensures.count.0 ∙ ap length q))
+
+pub write-requires : goal.write-requires
+write-requires c =
+    let a = c.args in
+    let rs = rows_from a.b a.l.now in
+    let e : crowded a.row.key rs ≡ false = sym c.is_crowded_from.ensures ∙ c.if-is_crowded_from.false in
+    let q : marked c.marks_from-marks.result.keep rs ≡ without a.row.key rs = ap (λ (ms : Marks). marked ms.keep rs) c.marks_from-marks.ensures ∙ marks_such (keeps_row (Other a.row.key)) rs in
+    (omega arith, omega (arith, leb-false 64 (length (without a.row.key rs)) e, c.pack-n.ensures.count.0 ∙ ap length q))
+
+pub bring-requires : goal.bring-requires
+bring-requires c =
+    let a = c.args in
+    let rs = rows_from a.b a.l.now in
+    let e : crowded a.row.key rs ≡ false = sym c.is_crowded_from.ensures ∙ c.if-is_crowded_from.false in
+    let q : marked c.marks_from-marks.result.keep rs ≡ without a.row.key rs = ap (λ (ms : Marks). marked ms.keep rs) c.marks_from-marks.ensures ∙ marks_such (keeps_row (Other a.row.key)) rs in
+    (omega arith, omega arith, omega (arith, leb-false 64 (length (without a.row.key rs)) e, c.pack-n.ensures.count.0 ∙ ap length q))
+
+pub overflow_add-n : goal.overflow_add-n
+overflow_add-n c = omega arith
+
+pub settle-requires : goal.settle-requires
+settle-requires c =
+    let a = c.args in
+    let rs = rows_from a.b a.l.now in
+    let e : crowded a.row.key rs ≡ false = sym c.is_crowded_from.ensures ∙ c.if-is_crowded_from.false in
+    let q : marked c.marks_from-marks.result.keep rs ≡ without a.row.key rs = ap (λ (ms : Marks). marked ms.keep rs) c.marks_from-marks.ensures ∙ marks_such (keeps_row (Other a.row.key)) rs in
+    (omega arith, omega arith, omega (arith, leb-false 64 (length (without a.row.key rs)) e, c.pack-n.ensures.count.0 ∙ ap length q))
+
+pub returns : goal.returns
+returns c =
+    let a = c.args in
+    let w = a.l.now in
+    let rs = rows_from a.b w in
+    let ps = places_of a.b w in
+    let h : a.b + 321 ≤ length w = omega (arith, c.known.ensures) in
+    let e : crowded a.row.key rs ≡ false = sym c.is_crowded_from.ensures ∙ c.if-is_crowded_from.false in
+    let q : marked c.marks_from-marks.result.keep rs ≡ without a.row.key rs = ap (λ (ms : Marks). marked ms.keep rs) c.marks_from-marks.ensures ∙ marks_such (keeps_row (Other a.row.key)) rs in
+    let n : c.pack-n.result ≡ length (without a.row.key rs) = c.pack-n.ensures.count.0 ∙ ap length q in
+    let f : c.pack-n.result < 64 = omega (arith, leb-false 64 (length (without a.row.key rs)) e) in
+    let g : length (without a.row.key rs) ≤ length ps = omega (arith, length_places a.b w) in
+    let o : Holds a.b w _ (filled (without a.row.key rs) ps) = record { is = c.pack-n.ensures.words ∙ ap (λ (xs : List Row). tabled a.b (at w a.b) (filled xs ps) w) q; full = length_filled (without a.row.key rs) ps g ∙ length_places a.b w } in
+    let p = between_them a.b w h a.row c.pack-n.result c.divide-m.result n f o c.divide-m.ensures.count.0 c.divide-m.ensures.words c.write.ensures c.bring.ensures in
+    let m : c.pack-n.result + 1 ≡ length (inserted a.row rs) = omega (arith, length_inserted a.row rs) in
+    (rw e refl, rw e (settled a.b w h (inserted a.row rs) (inserted_fits a.row rs e) p c.count-used.result (c.pack-n.result + 1) c.count-used.ensures.0 m c.settle.ensures))

@@ -1,0 +1,29 @@
+use mathlib.Core.Path.{◌∙◌, sym}
+use native.Mathlib.Omega.{arith}
+use borrow.Author.Tests.{le-leb, lt-leb}
+use lib.ListN.{length}
+use Rattle.rows.specs.Rows.{without, keeps_row}
+use Rattle.rows.specs.Words.{rows_from}
+use Rattle.rows.specs.declared.Keep.TheVariants.{Other}
+use Rattle.rows.proofs.Lists.{such_≤, none_removed, one_removed}
+use borrow.Author.Rules.{rules}
+use Rattle.rows.proofs.is_crowded_from.Goals as goal
+
+pub returns-then-count-lt-ROWS : goal.returns-then-count-lt-ROWS
+returns-then-count-lt-ROWS c =
+    let a = c.args in
+    let rs = rows_from a.b a.l.now in
+    sym (lt-leb 64 (length (without a.key rs)) (omega (arith, such_≤ (keeps_row (Other a.key)) rs)))
+
+pub returns-in-At : goal.returns-in-At
+returns-in-At c =
+    let a = c.args in
+    let rs = rows_from a.b a.l.now in
+    let h = one_removed a.key rs (sym c.find_from-found.ensures ∙ c.enum_told-1.given.1) in
+    sym (lt-leb 64 (length (without a.key rs)) (omega arith))
+
+pub returns-in-Nothing : goal.returns-in-Nothing
+returns-in-Nothing c =
+    let a = c.args in
+    let rs = rows_from a.b a.l.now in
+    rw (none_removed a.key rs (sym c.find_from-found.ensures ∙ c.enum_told-in-Nothing-1.given.1)) (sym (le-leb 64 (length rs) (omega arith)))

@@ -1,0 +1,6 @@
+use Rattle.rows.proofs.Words.{read_is}
+use borrow.Author.Rules.{rules}
+use Rattle.rows.proofs.read.Goals as goal
+
+pub returns : goal.returns
+returns c = read_is c.args.b c.args.l.now c.args.i c.requires.1

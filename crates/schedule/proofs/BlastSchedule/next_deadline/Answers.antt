@@ -1,0 +1,12 @@
+use mathlib.Core.Path.{sym}
+use Rattle.schedule.specs.Schedule.{next_of}
+use borrow.Author.Rules.{rules}
+use Rattle.schedule.proofs.BlastSchedule.next_deadline.Goals as goal
+
+pub returns-in-Next : goal.returns-in-Next
+unfolding next_of
+returns-in-Next c = simp (c.self-1.given.1, sym c.min.ensures, sym c.min-in-Next.ensures)
+
+pub returns-in-Over : goal.returns-in-Over
+unfolding next_of
+returns-in-Over c = simp c.enum_told-1.given.1

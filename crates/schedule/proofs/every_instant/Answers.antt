@@ -1,0 +1,5 @@
+use Rattle.schedule.proofs.Instants.{instant_in, instant_at}
+use Rattle.schedule.proofs.every_instant.Goals as goal
+
+pub returns : goal.returns
+returns c = (instant_in, instant_at)

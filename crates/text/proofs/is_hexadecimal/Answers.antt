@@ -1,0 +1,25 @@
+use mathlib.Core.Path.{◌≡◌, refl, sym, ◌∙◌}
+use mathlib.Core.Logic.{⊎_elim}
+use Prim.Native.Nat.{◌≤◌, ◌-◌, ◌/◌}
+use native.Mathlib.Omega.{arith}
+use lib.ListN.{length, drop}
+use lib.Dec.{ltb}
+use Rattle.prelude.specs.Choice.{both}
+use borrow.Author.Rules.{rules}
+use Rattle.text.proofs.Reading.{all_digits, odd, even_digits, greater_digit, no_greater_digit, digits_end}
+use Rattle.text.proofs.is_hexadecimal.Goals as goal
+
+pub returns-then-text-ne0 : goal.returns-then-text-ne0
+returns-then-text-ne0 c = odd _ c.if-text-ne0.true
+
+pub loop-i-init : goal.loop-i-init
+loop-i-init c = (omega arith, refl)
+
+pub loop-i-preserved : goal.loop-i-preserved
+loop-i-preserved c = ⊎_elim
+    (λ w. (omega arith, greater_digit _ _ _ c.loop-i.invariant.1 c.loop-i-test.true c.digit_value-d.ensures w.0.taken ∙ rw w.1))
+    (λ w. (omega arith, no_greater_digit _ _ _ c.loop-i.invariant.1 c.loop-i-test.true c.digit_value-d.ensures w.0.left ∙ rw w.1))
+    c.if-most-d.branch
+
+pub returns : goal.returns
+returns c = sym (even_digits (length c.args.text.now / 2) _ (omega arith) ∙ digits_end _ _ c.loop-i.most c.loop-i.invariant.1 c.loop-i-test.false)

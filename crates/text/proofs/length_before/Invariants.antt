@@ -1,0 +1,14 @@
+use mathlib.Core.Path.{sym, ◌∙◌, ◌≡◌}
+use Rattle.text.proofs.Reading.{passed_over, rest_before, before_within}
+use Prim.Native.Nat.{◌≤◌, ◌-◌, ◌+◌}
+use lib.ListN.{length, drop}
+use Rattle.text.specs.Words.{length_before}
+use native.Mathlib.Omega.{arith}
+use borrow.Author.Rules.{rules}
+use Rattle.text.proofs.length_before.Given as goal
+
+abbrev pub invariant-loop-i : goal.invariant-loop-i
+invariant-loop-i l = (l.i ≤ length l.text) × (length_before l.stop l.text ≡ l.i + length_before l.stop (drop l.i l.text))
+
+abbrev pub decreases-loop-i : goal.decreases-loop-i
+decreases-loop-i l = length l.text - l.i

@@ -1,0 +1,23 @@
+use mathlib.Core.Path.{◌≡◌, refl, ◌∙◌}
+use Prim.Native.Nat.{◌≤◌, ◌-◌}
+use native.Mathlib.Omega.{arith}
+use lib.ListN.{length, take}
+use Rattle.text.specs.Hexadecimal.{hexadecimal}
+use Rattle.text.proofs.Printing.{laid, parts, Laid, hex_none, hex_more, hex_all}
+use borrow.Author.Rules.{rules}
+use Rattle.text.proofs.put_hexadecimal.Goals as goal
+
+pub loop-i-init : goal.loop-i-init
+loop-i-init c = (omega arith, hex_none _ _ c.args.bytes.now, refl)
+
+pub digit-requires : goal.digit-requires
+digit-requires c = omega (arith, c.shared_slice_known-in-loop-i-1.given c.loop-i.i)
+
+pub loop-i-preserved : goal.loop-i-preserved
+loop-i-preserved c = (omega arith, hex_more _ _ c.loop-i-test.true c.loop-i.invariant.1 c.digit.ensures c.digit-in-loop-i.ensures (laid _ _ _ c.put_byte-p.ensures) (laid _ _ _ c.put_byte-p-in-loop-i.ensures), c.put_byte-p-in-loop-i.auto.1.0 ∙ c.put_byte-p.auto.1.0 ∙ c.loop-i.invariant.2)
+
+pub shape_of-out : goal.shape_of-out
+shape_of-out c = c.loop-i.invariant.2
+
+pub returns : goal.returns
+returns c = parts (hex_all _ _ c.loop-i-test.false c.loop-i.invariant.1)

@@ -1,0 +1,14 @@
+use mathlib.Core.Path.{◌≡◌, refl, ◌∙◌}
+use Prim.Native.Nat.{◌≤◌, ◌-◌}
+use native.Mathlib.Omega.{arith}
+use lib.ListN.{length, take}
+use Rattle.text.specs.Hexadecimal.{hexadecimal}
+use Rattle.text.proofs.Printing.{laid, parts, Laid, hex_none, hex_more, hex_all}
+use borrow.Author.Rules.{rules}
+use Rattle.text.proofs.put_hexadecimal.Given as goal
+
+abbrev pub invariant-loop-i : goal.invariant-loop-i
+invariant-loop-i l = (l.i ≤ length l.bytes) × Laid l.initial.out l.at (hexadecimal (take l.i l.bytes)) l.out l.p × (length l.out ≡ length l.initial.out)
+
+abbrev pub decreases-loop-i : goal.decreases-loop-i
+decreases-loop-i l = length l.bytes - l.i

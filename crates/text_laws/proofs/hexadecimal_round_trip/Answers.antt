@@ -1,0 +1,5 @@
+use Rattle.text.proofs.Hexadecimal.{bytes_read, bytes_taken, text_of_bytes}
+use Rattle.text_laws.proofs.hexadecimal_round_trip.Goals as goal
+
+pub returns : goal.returns
+returns c = (bytes_read, (bytes_taken, text_of_bytes))

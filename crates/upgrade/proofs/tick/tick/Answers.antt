@@ -1,0 +1,15 @@
+use mathlib.Core.Path.{sym}
+use borrow.Author.Rules.{rules}
+use Rattle.upgrade.proofs.tick.tick.Goals as goal
+
+pub returns-in-Handshaking : goal.returns-in-Handshaking
+returns-in-Handshaking c = simp (sym c.tick_handshaking.ensures, c.phase-1.given.1)
+
+pub returns-in-Exchange : goal.returns-in-Exchange
+returns-in-Exchange c = simp (sym c.tick_exchange.ensures, c.phase-in-Exchange-1.given.1)
+
+pub returns-in-Punching : goal.returns-in-Punching
+returns-in-Punching c = simp (sym c.tick_punching.ensures, c.phase-in-Punching-1.given.1)
+
+pub returns-in-Done : goal.returns-in-Done
+returns-in-Done c = simp (sym c.quiet.ensures, c.enum_told-1.given.1)

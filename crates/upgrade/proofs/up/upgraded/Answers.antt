@@ -1,0 +1,8 @@
+use Rattle.upgrade.specs.Ups.{upgraded_of}
+use mathlib.Core.Path.{sym}
+use borrow.Author.Rules.{rules}
+use Rattle.upgrade.proofs.up.upgraded.Goals as goal
+
+pub returns : goal.returns
+unfolding upgraded_of
+returns c = simp (sym c.decided.ensures, sym c.event.ensures, sym c.finish.ensures)
