@@ -18,10 +18,10 @@ pub loop-start-init : goal.loop-start-init
 loop-start-init c = (omega arith, refl)
 
 pub returns-in-End : goal.returns-in-End
-returns-in-End c = holds_not c.args.a.now c.args.list.now c.loop-start.at c.loop-start.invariant.1 (entries_end _ _ c.enum_told-1.given.1 c.entry_at-e.ensures)
+returns-in-End c = holds_not c.args.a.now c.args.list.now c.loop-start.at c.loop-start.invariant.1 (entries_end _ _ c.in-End.is c.entry_at-e.ensures)
 
 pub returns-in-Broken : goal.returns-in-Broken
-returns-in-Broken c = holds_not c.args.a.now c.args.list.now c.loop-start.at c.loop-start.invariant.1 (entries_break _ _ c.enum_told-in-Broken-1.given.1 c.entry_at-e.ensures)
+returns-in-Broken c = holds_not c.args.a.now c.args.list.now c.loop-start.at c.loop-start.invariant.1 (entries_break _ _ c.in-Broken.is c.entry_at-e.ensures)
 
 pub slice_bounds-same_bytes-count : goal.slice_bounds-same_bytes-count
 slice_bounds-same_bytes-count c = omega (arith, here c.before)

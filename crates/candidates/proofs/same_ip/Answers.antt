@@ -4,10 +4,10 @@ use borrow.Author.Rules.{rules}
 use Rattle.candidates.proofs.same_ip.Goals as goal
 
 pub returns-then-h-g : goal.returns-then-h-g
-returns-then-h-g c = simp (eq-eqb _ _ c.if-h-g.true, c.b-in-V6-1.given.1, c.a-in-V6-a-1.given.1)
+returns-then-h-g c = simp (eq-eqb _ _ c.if-h-g.true, c.in-V6-b-2.is, c.in-V6.is)
 
 pub returns-in-V4-b : goal.returns-in-V4-b
-returns-in-V4-b c = simp (c.b-1.given.1, c.a-1.given.1)
+returns-in-V4-b c = simp (c.in-V4-b.is, c.in-V4.is)
 
 pub returns-else-h-g : goal.returns-else-h-g
-returns-else-h-g c = simp (ne_eqb _ _ c.if-h-g.false, c.b-in-V6-1.given.1, c.a-in-V6-a-1.given.1)
+returns-else-h-g c = simp (ne_eqb _ _ c.if-h-g.false, c.in-V6-b-2.is, c.in-V6.is)

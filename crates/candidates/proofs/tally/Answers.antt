@@ -11,7 +11,7 @@ pub overflow_add-result-in-Address-3 : goal.overflow_add-result-in-Address-3
 overflow_add-result-in-Address-3 c = omega (arith, bit_le c.same_ip.result)
 
 pub returns-in-Other : goal.returns-in-Other
-returns-in-Other c = tally_other c.args.ip c.args.n c.args.a.now c.parse.ensures c.enum_told-1.given.1
+returns-in-Other c = tally_other c.args.ip c.args.n c.args.a.now c.parse.ensures c.in-Other.is
 
 pub returns-in-Address : goal.returns-in-Address
-returns-in-Address c = tally_address c.args.ip c.args.n c.args.a.now c.parse.ensures c.other-1.given.1 c.one_if.ensures c.same_family.ensures c.one_if-in-Address.ensures c.same_ip.ensures
+returns-in-Address c = tally_address c.args.ip c.args.n c.args.a.now c.parse.ensures c.in-Address.is c.one_if.ensures c.same_family.ensures c.one_if-in-Address.ensures c.same_ip.ensures

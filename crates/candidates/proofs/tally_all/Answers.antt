@@ -15,10 +15,10 @@ pub loop-n-init : goal.loop-n-init
 loop-n-init c = count_none _ _
 
 pub returns-in-End : goal.returns-in-End
-returns-in-End c = count_all _ _ _ _ c.loop-n.invariant (entries_end _ _ c.enum_told-1.given.1 c.entry_at-e.ensures)
+returns-in-End c = count_all _ _ _ _ c.loop-n.invariant (entries_end _ _ c.in-End.is c.entry_at-e.ensures)
 
 pub returns-in-Broken : goal.returns-in-Broken
-returns-in-Broken c = count_all _ _ _ _ c.loop-n.invariant (entries_break _ _ c.enum_told-in-Broken-1.given.1 c.entry_at-e.ensures)
+returns-in-Broken c = count_all _ _ _ _ c.loop-n.invariant (entries_break _ _ c.in-Broken.is c.entry_at-e.ensures)
 
 pub slice_bounds-tally-count : goal.slice_bounds-tally-count
 slice_bounds-tally-count c = omega (arith, here c.before)

@@ -5,10 +5,10 @@ use borrow.Author.Rules.{rules}
 use Rattle.candidates.proofs.wanted.Goals as goal
 
 pub returns-then-suits_source : goal.returns-then-suits_source
-returns-then-suits_source c = wanted_room c.args.l c.args.source (entries c.args.kept.now) c.args.a.now c.parse.ensures c.ip-1.given.1 c.suits_source.ensures c.if-suits_source.true c.tally_all-n.ensures c.room_for.ensures
+returns-then-suits_source c = wanted_room c.args.l c.args.source (entries c.args.kept.now) c.args.a.now c.parse.ensures c.in-Address.is c.suits_source.ensures c.if-suits_source.true c.tally_all-n.ensures c.room_for.ensures
 
 pub returns-in-Other : goal.returns-in-Other
-returns-in-Other c = wanted_other c.args.l c.args.source (entries c.args.kept.now) c.args.a.now c.parse.ensures c.enum_told-1.given.1
+returns-in-Other c = wanted_other c.args.l c.args.source (entries c.args.kept.now) c.args.a.now c.parse.ensures c.in-Other.is
 
 pub returns-else-suits_source : goal.returns-else-suits_source
-returns-else-suits_source c = wanted_not c.args.l c.args.source (entries c.args.kept.now) c.args.a.now c.parse.ensures c.ip-1.given.1 c.suits_source.ensures c.if-suits_source.false
+returns-else-suits_source c = wanted_not c.args.l c.args.source (entries c.args.kept.now) c.args.a.now c.parse.ensures c.in-Address.is c.suits_source.ensures c.if-suits_source.false

@@ -5,12 +5,12 @@ use Rattle.carried.proofs.send.Goals as goal
 
 pub returns-in-None : goal.returns-in-None
 unfolding sent_after
-returns-in-None c = simp c.enum_told-1.given.1
+returns-in-None c = simp c.in-None.is
 
 pub returns-in-Connect : goal.returns-in-Connect
 unfolding sent_after
-returns-in-Connect c = simp (sym c.copy_frame.ensures, c.enum_told-in-Connect-1.given.1)
+returns-in-Connect c = simp (sym c.copy_frame.ensures, c.in-Connect.is)
 
 pub returns-in-Sync : goal.returns-in-Sync
 unfolding sent_after
-returns-in-Sync c = simp (sym c.copy_frame-in-Sync.ensures, sym c.sync_frame-sync.ensures, c.enum_told-in-Sync-1.given.1)
+returns-in-Sync c = simp (sym c.copy_frame-in-Sync.ensures, sym c.sync_frame-sync.ensures, c.in-Sync.is)

@@ -5,12 +5,12 @@ use Rattle.carried.proofs.take_targets.Goals as goal
 
 pub returns-in-Kept : goal.returns-in-Kept
 unfolding targets_after
-returns-in-Kept c = simp c.enum_told-1.given.1
+returns-in-Kept c = simp c.in-Kept.is
 
 pub returns-in-Removed : goal.returns-in-Removed
 unfolding targets_after
-returns-in-Removed c = simp c.enum_told-in-Removed-1.given.1
+returns-in-Removed c = simp c.in-Removed.is
 
 pub returns-in-Opened : goal.returns-in-Opened
 unfolding targets_after
-returns-in-Opened c = simp (sym c.copy_targets.ensures, c.enum_told-in-Opened-1.given.1)
+returns-in-Opened c = simp (sym c.copy_targets.ensures, c.in-Opened.is)

@@ -5,16 +5,16 @@ use Rattle.dials.proofs.asked_of.Goals as goal
 
 pub returns-in-Dialed : goal.returns-in-Dialed
 unfolding asked_of
-returns-in-Dialed c = simp (sym c.asked_by.ensures, c.entry-1.given.1, sym c.entry_of-entry.ensures)
+returns-in-Dialed c = simp (sym c.asked_by.ensures, c.in-Dialed.is, sym c.entry_of-entry.ensures)
 
 pub returns-in-Other : goal.returns-in-Other
 unfolding asked_of
-returns-in-Other c = simp (c.enum_told-1.given.1, sym c.entry_of-entry.ensures)
+returns-in-Other c = simp (c.in-Other.is, sym c.entry_of-entry.ensures)
 
 pub returns-in-Window : goal.returns-in-Window
 unfolding asked_of
-returns-in-Window c = simp (c.enum_told-in-Window-1.given.1, sym c.entry_of-entry.ensures)
+returns-in-Window c = simp (c.in-Window.is, sym c.entry_of-entry.ensures)
 
 pub returns-in-Path : goal.returns-in-Path
 unfolding asked_of
-returns-in-Path c = simp (c.enum_told-in-Path-1.given.1, sym c.entry_of-entry.ensures)
+returns-in-Path c = simp (c.in-Path.is, sym c.entry_of-entry.ensures)

@@ -31,7 +31,7 @@ pub loop-i-preserved-in-Other : goal.loop-i-preserved-in-Other
 loop-i-preserved-in-Other c =
     let f64 : length c.args.t3.rows ≡ 64 = simp length-map at c.well-formed.1.1.0.1.1.0.1.0.1 in
     let f = sym (c.fate_at-fate.ensures ∙ ap (λ (r : Row). fate_at c.args.id r (get_or c.args.t3.rows c.loop-i.i no_first)) c.row_at-row.ensures) in
-    (omega arith, gives_none c.loop-i.invariant.1 (omega arith) (omega arith) (simp (f, c.enum_told-1.given.1)))
+    (omega arith, gives_none c.loop-i.invariant.1 (omega arith) (omega arith) (simp (f, c.in-Other.is)))
 
 pub loop-i-smaller-in-Stays : goal.loop-i-smaller-in-Stays
 loop-i-smaller-in-Stays c = omega arith
@@ -40,7 +40,7 @@ pub loop-i-preserved-in-Stays : goal.loop-i-preserved-in-Stays
 loop-i-preserved-in-Stays c =
     let f64 : length c.args.t3.rows ≡ 64 = simp length-map at c.well-formed.1.1.0.1.1.0.1.0.1 in
     let f = sym (c.fate_at-fate.ensures ∙ ap (λ (r : Row). fate_at c.args.id r (get_or c.args.t3.rows c.loop-i.i no_first)) c.row_at-row.ensures) in
-    (omega arith, gives_none c.loop-i.invariant.1 (omega arith) (omega arith) (simp (f, c.enum_told-in-Stays-1.given.1)))
+    (omega arith, gives_none c.loop-i.invariant.1 (omega arith) (omega arith) (simp (f, c.in-Stays.is)))
 
 pub loop-i-smaller-in-Goes : goal.loop-i-smaller-in-Goes
 loop-i-smaller-in-Goes c = omega arith
@@ -49,7 +49,7 @@ pub loop-i-preserved-in-Goes : goal.loop-i-preserved-in-Goes
 loop-i-preserved-in-Goes c =
     let f64 : length c.args.t3.rows ≡ 64 = simp length-map at c.well-formed.1.1.0.1.1.0.1.0.1 in
     let f = sym (c.fate_at-fate.ensures ∙ ap (λ (r : Row). fate_at c.args.id r (get_or c.args.t3.rows c.loop-i.i no_first)) c.row_at-row.ensures) in
-    (omega arith, gives_none c.loop-i.invariant.1 (omega arith) (omega arith) (simp (f, c.enum_told-in-Goes-1.given.1)))
+    (omega arith, gives_none c.loop-i.invariant.1 (omega arith) (omega arith) (simp (f, c.in-Goes.is)))
 
 pub offset_bounds-connections-m : goal.offset_bounds-connections-m
 offset_bounds-connections-m c = omega arith
@@ -67,7 +67,7 @@ pub loop-i-preserved : goal.loop-i-preserved
 loop-i-preserved c =
     let f64 : length c.args.t3.rows ≡ 64 = simp length-map at c.well-formed.1.1.0.1.1.0.1.0.1 in
     let f = sym (c.fate_at-fate.ensures ∙ ap (λ (r : Row). fate_at c.args.id r (get_or c.args.t3.rows c.loop-i.i no_first)) c.row_at-row.ensures) in
-    (omega arith, gives c.loop-i.invariant.1 (omega arith) (omega arith) (simp (f, c.enum_told-in-Closes-1.given.1) (rw c.row_at-row.ensures refl)) (omega arith))
+    (omega arith, gives c.loop-i.invariant.1 (omega arith) (omega arith) (simp (f, c.in-Closes.is) (rw c.row_at-row.ensures refl)) (omega arith))
 
 pub returns : goal.returns
 returns c =

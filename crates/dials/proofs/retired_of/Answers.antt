@@ -31,7 +31,7 @@ pub loop-i-preserved-in-Other : goal.loop-i-preserved-in-Other
 loop-i-preserved-in-Other c =
     let f64 : length c.args.t3.rows ≡ 64 = simp length-map at c.well-formed.1.1.0.1.1.0.1.0.1 in
     let f = sym (c.fate_at-fate.ensures ∙ ap (λ (r : Row). fate_at c.args.id r (get_or c.args.t3.rows c.loop-i.i no_first)) c.row_at-row.ensures) in
-    (omega arith, gives_none c.loop-i.invariant.1 (omega arith) (omega arith) (simp (f, c.enum_told-1.given.1)))
+    (omega arith, gives_none c.loop-i.invariant.1 (omega arith) (omega arith) (simp (f, c.in-Other.is)))
 
 pub offset_bounds-tokens-m : goal.offset_bounds-tokens-m
 offset_bounds-tokens-m c = omega arith
@@ -49,7 +49,7 @@ pub loop-i-preserved-in-Stays : goal.loop-i-preserved-in-Stays
 loop-i-preserved-in-Stays c =
     let f64 : length c.args.t3.rows ≡ 64 = simp length-map at c.well-formed.1.1.0.1.1.0.1.0.1 in
     let f = sym (c.fate_at-fate.ensures ∙ ap (λ (r : Row). fate_at c.args.id r (get_or c.args.t3.rows c.loop-i.i no_first)) c.row_at-row.ensures) in
-    (omega arith, gives c.loop-i.invariant.1 (omega arith) (omega arith) (simp (f, c.fate-1.given.1)) (omega arith))
+    (omega arith, gives c.loop-i.invariant.1 (omega arith) (omega arith) (simp (f, c.in-Stays.is)) (omega arith))
 
 pub offset_bounds-tokens-m-in-Goes : goal.offset_bounds-tokens-m-in-Goes
 offset_bounds-tokens-m-in-Goes c = omega arith
@@ -67,7 +67,7 @@ pub loop-i-preserved-in-Goes : goal.loop-i-preserved-in-Goes
 loop-i-preserved-in-Goes c =
     let f64 : length c.args.t3.rows ≡ 64 = simp length-map at c.well-formed.1.1.0.1.1.0.1.0.1 in
     let f = sym (c.fate_at-fate.ensures ∙ ap (λ (r : Row). fate_at c.args.id r (get_or c.args.t3.rows c.loop-i.i no_first)) c.row_at-row.ensures) in
-    (omega arith, gives c.loop-i.invariant.1 (omega arith) (omega arith) (simp (f, c.fate-in-Goes-1.given.1)) (omega arith))
+    (omega arith, gives c.loop-i.invariant.1 (omega arith) (omega arith) (simp (f, c.in-Goes.is)) (omega arith))
 
 pub offset_bounds-tokens-m-in-Closes : goal.offset_bounds-tokens-m-in-Closes
 offset_bounds-tokens-m-in-Closes c = omega arith
@@ -85,7 +85,7 @@ pub loop-i-preserved : goal.loop-i-preserved
 loop-i-preserved c =
     let f64 : length c.args.t3.rows ≡ 64 = simp length-map at c.well-formed.1.1.0.1.1.0.1.0.1 in
     let f = sym (c.fate_at-fate.ensures ∙ ap (λ (r : Row). fate_at c.args.id r (get_or c.args.t3.rows c.loop-i.i no_first)) c.row_at-row.ensures) in
-    (omega arith, gives c.loop-i.invariant.1 (omega arith) (omega arith) (simp (f, c.fate-in-Closes-1.given.1)) (omega arith))
+    (omega arith, gives c.loop-i.invariant.1 (omega arith) (omega arith) (simp (f, c.in-Closes.is)) (omega arith))
 
 pub returns : goal.returns
 returns c =

@@ -4,16 +4,16 @@ use Rattle.entries.proofs.dial_of.Goals as goal
 
 pub returns-in-Dialed : goal.returns-in-Dialed
 unfolding dial_of
-returns-in-Dialed c = simp c.entry-1.given.1
+returns-in-Dialed c = simp c.in-Dialed.is
 
 pub returns-in-Other : goal.returns-in-Other
 unfolding dial_of
-returns-in-Other c = simp c.enum_told-1.given.1
+returns-in-Other c = simp c.in-Other.is
 
 pub returns-in-Window : goal.returns-in-Window
 unfolding dial_of
-returns-in-Window c = simp c.enum_told-in-Window-1.given.1
+returns-in-Window c = simp c.in-Window.is
 
 pub returns-in-Path : goal.returns-in-Path
 unfolding dial_of
-returns-in-Path c = simp c.enum_told-in-Path-1.given.1
+returns-in-Path c = simp c.in-Path.is

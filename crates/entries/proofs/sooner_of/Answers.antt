@@ -5,16 +5,16 @@ use Rattle.entries.proofs.sooner_of.Goals as goal
 
 pub returns-in_default : goal.returns-in_default
 unfolding sooner
-returns-in_default c = simp c.enum_told-1.given.1
+returns-in_default c = simp c.in_default.is
 
 pub returns-in_default-b : goal.returns-in_default-b
 unfolding sooner
-returns-in_default-b c = simp (c.enum_told-in_default-b-1.given.1, c.a-1.given.1)
+returns-in_default-b c = simp (c.in_default-b.is, c.in-At.is)
 
 pub returns-then-y-x : goal.returns-then-y-x
 unfolding sooner
-returns-then-y-x c = simp (lt-ltb _ _ c.if-y-x.true, lt-leb _ _ c.if-y-x.true, c.b-1.given.1, c.a-1.given.1)
+returns-then-y-x c = simp (lt-ltb _ _ c.if-y-x.true, lt-leb _ _ c.if-y-x.true, c.in-At-b.is, c.in-At.is)
 
 pub returns-else-y-x : goal.returns-else-y-x
 unfolding sooner
-returns-else-y-x c = simp (le-ltb _ _ c.if-y-x.false, le-leb _ _ c.if-y-x.false, c.b-1.given.1, c.a-1.given.1)
+returns-else-y-x c = simp (le-ltb _ _ c.if-y-x.false, le-leb _ _ c.if-y-x.false, c.in-At-b.is, c.in-At.is)

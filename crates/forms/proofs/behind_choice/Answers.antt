@@ -3,7 +3,7 @@ use borrow.Author.Rules.{rules}
 use Rattle.forms.proofs.behind_choice.Goals as goal
 
 pub returns-then-c-size : goal.returns-then-c-size
-returns-then-c-size c = simp (lt-ltb _ _ c.if-c-size.true, c.enum_told-in-Choice-1.given.1)
+returns-then-c-size c = simp (lt-ltb _ _ c.if-c-size.true, c.in-Choice.is)
 
 pub returns-else-c-size : goal.returns-else-c-size
-returns-else-c-size c = simp (le-ltb _ _ c.if-c-size.false, c.enum_told-in-Choice-1.given.1)
+returns-else-c-size c = simp (le-ltb _ _ c.if-c-size.false, c.in-Choice.is)

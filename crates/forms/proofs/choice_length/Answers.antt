@@ -3,4 +3,4 @@ use borrow.Author.Rules.{rules}
 use Rattle.forms.proofs.choice_length.Goals as goal
 
 pub returns-in-Choice : goal.returns-in-Choice
-returns-in-Choice c = simp (sym c.length_before.ensures, c.enum_told-in-Choice-1.given.1)
+returns-in-Choice c = simp (sym c.length_before.ensures, c.in-Choice.is)

@@ -23,10 +23,10 @@ pub slice_bounds-is_word-end : goal.slice_bounds-is_word-end
 slice_bounds-is_word-end c = omega (arith, word_fits c.args.choice.now c.loop-k.w c.loop-k.invariant.0 c.length_before-n.ensures)
 
 pub returns-then-is_word : goal.returns-then-is_word
-returns-then-is_word c = word_found _ _ _ _ c.loop-k.invariant.2 c.loop-k.invariant.0 c.length_before-n.ensures c.is_IsWord.ensures c.if-is_word.true
+returns-then-is_word c = word_found _ _ _ _ c.loop-k.invariant.2 c.loop-k.invariant.0 c.length_before-n.ensures c.is_word.ensures c.if-is_word.true
 
 pub returns-then-choice-e : goal.returns-then-choice-e
-returns-then-choice-e c = word_none _ _ _ _ c.loop-k.invariant.2 c.loop-k.invariant.0 c.length_before-n.ensures c.is_IsWord.ensures c.if-is_word.false c.if-choice-e.true
+returns-then-choice-e c = word_none _ _ _ _ c.loop-k.invariant.2 c.loop-k.invariant.0 c.length_before-n.ensures c.is_word.ensures c.if-is_word.false c.if-choice-e.true
 
 pub overflow_add-k : goal.overflow_add-k
 overflow_add-k c = omega (arith, word_fits c.args.choice.now c.loop-k.w c.loop-k.invariant.0 c.length_before-n.ensures)
@@ -35,4 +35,4 @@ pub loop-k-smaller : goal.loop-k-smaller
 loop-k-smaller c = omega (arith, word_fits c.args.choice.now c.loop-k.w c.loop-k.invariant.0 c.length_before-n.ensures)
 
 pub loop-k-preserved : goal.loop-k-preserved
-loop-k-preserved c = (omega arith, omega arith, word_next _ _ _ _ c.loop-k.invariant.2 c.loop-k.invariant.0 c.length_before-n.ensures c.is_IsWord.ensures c.if-is_word.false c.if-choice-e.false)
+loop-k-preserved c = (omega arith, omega arith, word_next _ _ _ _ c.loop-k.invariant.2 c.loop-k.invariant.0 c.length_before-n.ensures c.is_word.ensures c.if-is_word.false c.if-choice-e.false)

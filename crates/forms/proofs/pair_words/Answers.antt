@@ -11,23 +11,23 @@ use Rattle.forms.proofs.pair_words.Goals as goal
 
 pub returns-then-is_word : goal.returns-then-is_word
 unfolding pair_words
-returns-then-is_word c = simp (sym c.is_IsWord.ensures, c.if-is_word.true)
+returns-then-is_word c = simp (sym c.is_word.ensures, c.if-is_word.true)
 
 pub returns-then-value-n : goal.returns-then-value-n
 unfolding pair_words
-returns-then-value-n c = simp (sym c.is_IsWord.ensures, c.if-is_word.false, sym c.length_before-n.ensures, le-leb _ _ c.if-value-n.true)
+returns-then-value-n c = simp (sym c.is_word.ensures, c.if-is_word.false, sym c.length_before-n.ensures, le-leb _ _ c.if-value-n.true)
 
 pub slice_bounds-read_decimal-end : goal.slice_bounds-read_decimal-end
 slice_bounds-read_decimal-end c = simp length-take (omega arith)
 
 pub returns-in_default : goal.returns-in_default
 unfolding pair_words
-returns-in_default c = simp (sym c.is_IsWord.ensures, c.if-is_word.false, sym c.length_before-n.ensures, lt-leb _ _ c.if-value-n.false, sym c.read_decimal.ensures, c.enum_told-1.given.1)
+returns-in_default c = simp (sym c.is_word.ensures, c.if-is_word.false, sym c.length_before-n.ensures, lt-leb _ _ c.if-value-n.false, sym c.read_decimal.ensures, c.in_default.is)
 
 pub returns-in_default-read_decimal : goal.returns-in_default-read_decimal
 unfolding pair_words
-returns-in_default-read_decimal c = simp (sym c.is_IsWord.ensures, c.if-is_word.false, sym c.length_before-n.ensures, lt-leb _ _ c.if-value-n.false, sym c.read_decimal.ensures, c.first-1.given.1, sym (c.read_decimal-2.ensures ∙ ap decimal_of (rest_of c.args.value.now (c.length_before-n.result + 1))), c.enum_told-in_default-read_decimal-1.given.1)
+returns-in_default-read_decimal c = simp (sym c.is_word.ensures, c.if-is_word.false, sym c.length_before-n.ensures, lt-leb _ _ c.if-value-n.false, sym c.read_decimal.ensures, c.in-Value.is, sym (c.read_decimal-2.ensures ∙ ap decimal_of (rest_of c.args.value.now (c.length_before-n.result + 1))), c.in_default-read_decimal.is)
 
 pub returns : goal.returns
 unfolding pair_words
-returns c = simp (sym c.is_IsWord.ensures, c.if-is_word.false, sym c.length_before-n.ensures, lt-leb _ _ c.if-value-n.false, sym c.read_decimal.ensures, c.first-1.given.1, sym (c.read_decimal-2.ensures ∙ ap decimal_of (rest_of c.args.value.now (c.length_before-n.result + 1))), c.second-1.given.1)
+returns c = simp (sym c.is_word.ensures, c.if-is_word.false, sym c.length_before-n.ensures, lt-leb _ _ c.if-value-n.false, sym c.read_decimal.ensures, c.in-Value.is, sym (c.read_decimal-2.ensures ∙ ap decimal_of (rest_of c.args.value.now (c.length_before-n.result + 1))), c.in-Value-read_decimal.is)

@@ -4,7 +4,7 @@ use borrow.Author.Rules.{rules}
 use Rattle.frames.proofs.connect_frame.Goals as goal
 
 pub returns-in-Message : goal.returns-in-Message
-returns-in-Message c = connect_made c.args.own.now c.blank-bytes.ensures c.encode_frame.ensures.answer c.encode_frame.ensures.stored c.len-1.given.1
+returns-in-Message c = connect_made c.args.own.now c.blank-bytes.ensures c.encode_frame.ensures.answer c.encode_frame.ensures.stored c.in-Message.is
 
 pub returns-in-Refused : goal.returns-in-Refused
-returns-in-Refused c = connect_refused c.args.own.now c.blank-bytes.ensures c.encode_frame.ensures.answer c.encode_frame.ensures.stored c.enum_told-1.given.1
+returns-in-Refused c = connect_refused c.args.own.now c.blank-bytes.ensures c.encode_frame.ensures.answer c.encode_frame.ensures.stored c.in-Refused.is

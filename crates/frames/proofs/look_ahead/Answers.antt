@@ -12,13 +12,13 @@ pub returns-then-buffer-n : goal.returns-then-buffer-n
 returns-then-buffer-n c = ahead_full _ _ _ _ _ c.loop-i.invariant c.loop-i-test.true c.if-buffer-n.true
 
 pub loop-i-preserved : goal.loop-i-preserved
-loop-i-preserved c = ahead_more _ _ _ _ _ c.loop-i.invariant c.loop-i-test.true c.if-buffer-n.false c.frame_byte-first.ensures c.frame_byte-second.ensures c.frame_from.ensures c.enum_told-1.given.1
+loop-i-preserved c = ahead_more _ _ _ _ _ c.loop-i.invariant c.loop-i-test.true c.if-buffer-n.false c.frame_byte-first.ensures c.frame_byte-second.ensures c.frame_from.ensures c.in-More.is
 
 pub returns-in-Whole : goal.returns-in-Whole
-returns-in-Whole c = ahead_whole _ _ _ _ _ c.loop-i.invariant c.loop-i-test.true c.if-buffer-n.false c.frame_byte-first.ensures c.frame_byte-second.ensures c.frame_from.ensures c.start-1.given.1
+returns-in-Whole c = ahead_whole _ _ _ _ _ c.loop-i.invariant c.loop-i-test.true c.if-buffer-n.false c.frame_byte-first.ensures c.frame_byte-second.ensures c.frame_from.ensures c.in-Whole.is
 
 pub returns-in-Broken : goal.returns-in-Broken
-returns-in-Broken c = ahead_broken _ _ _ _ _ c.loop-i.invariant c.loop-i-test.true c.if-buffer-n.false c.frame_byte-first.ensures c.frame_byte-second.ensures c.frame_from.ensures c.enum_told-in-Broken-1.given.1
+returns-in-Broken c = ahead_broken _ _ _ _ _ c.loop-i.invariant c.loop-i-test.true c.if-buffer-n.false c.frame_byte-first.ensures c.frame_byte-second.ensures c.frame_from.ensures c.in-Broken.is
 
 pub returns : goal.returns
 returns c = ahead_all _ _ _ _ _ c.loop-i.invariant c.loop-i-test.false

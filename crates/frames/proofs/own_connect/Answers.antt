@@ -4,10 +4,10 @@ use borrow.Author.Rules.{rules}
 use Rattle.frames.proofs.own_connect.Goals as goal
 
 pub returns-in-Refused : goal.returns-in-Refused
-returns-in-Refused c = own_broken c.args.limits c.args.list.now c.own_punch_candidates-selection.ensures c.enum_told-1.given.1 c.empty.ensures
+returns-in-Refused c = own_broken c.args.limits c.args.list.now c.own_punch_candidates-selection.ensures c.in-Refused.is c.empty.ensures
 
 pub connect_of-requires : goal.connect_of-requires
-connect_of-requires c = own_within c.args.limits c.args.list.now c.own_punch_candidates-selection.ensures c.enum_told-in-Accepted-1.given.1
+connect_of-requires c = own_within c.args.limits c.args.list.now c.own_punch_candidates-selection.ensures c.in-Accepted.is
 
 pub returns-in-Accepted : goal.returns-in-Accepted
-returns-in-Accepted c = own_kept c.args.limits c.args.list.now c.own_punch_candidates-selection.ensures c.enum_told-in-Accepted-1.given.1 c.connect_of.ensures
+returns-in-Accepted c = own_kept c.args.limits c.args.list.now c.own_punch_candidates-selection.ensures c.in-Accepted.is c.connect_of.ensures

@@ -13,13 +13,13 @@ pub slice_bounds-read_ahead-end : goal.slice_bounds-read_ahead-end
 slice_bounds-read_ahead-end c = simp length-take (omega (arith, span_of c.args.input.now c.args.buffer.now c.args.count c.look_ahead-g.ensures))
 
 pub read_ahead-requires : goal.read_ahead-requires
-read_ahead-requires c = whole_inside c.args.input.now c.args.buffer.now c.args.count c.args.out.now c.look_ahead-g.ensures c.f-1.given.1
+read_ahead-requires c = whole_inside c.args.input.now c.args.buffer.now c.args.count c.args.out.now c.look_ahead-g.ensures c.in-Whole.is
 
 pub returns-in-More : goal.returns-in-More
-returns-in-More c = reply_more c.args.input.now c.args.buffer.now c.args.count c.args.out.now c.look_ahead-g.ensures c.enum_told-1.given.1
+returns-in-More c = reply_more c.args.input.now c.args.buffer.now c.args.count c.args.out.now c.look_ahead-g.ensures c.in-More.is
 
 pub returns-in-Broken : goal.returns-in-Broken
-returns-in-Broken c = reply_broken c.args.input.now c.args.buffer.now c.args.count c.args.out.now c.look_ahead-g.ensures c.enum_told-in-Broken-1.given.1
+returns-in-Broken c = reply_broken c.args.input.now c.args.buffer.now c.args.count c.args.out.now c.look_ahead-g.ensures c.in-Broken.is
 
 pub returns-in-Whole : goal.returns-in-Whole
-returns-in-Whole c = reply_whole c.args.input.now c.args.buffer.now c.args.count c.args.out.now c.look_ahead-g.ensures c.f-1.given.1 c.read_ahead.ensures.answer c.read_ahead.ensures.stored
+returns-in-Whole c = reply_whole c.args.input.now c.args.buffer.now c.args.count c.args.out.now c.look_ahead-g.ensures c.in-Whole.is c.read_ahead.ensures.answer c.read_ahead.ensures.stored

@@ -2,4 +2,4 @@ use borrow.Author.Rules.{rules}
 use Rattle.inputs.proofs.frame_bytes.Goals as goal
 
 pub returns-in-Exchange : goal.returns-in-Exchange
-returns-in-Exchange c = simp c.phase-1.given.1
+returns-in-Exchange c = simp c.in-Exchange.is

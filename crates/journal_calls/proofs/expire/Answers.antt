@@ -5,7 +5,7 @@ use borrow.Author.Rules.{rules}
 use Rattle.journal_calls.proofs.expire.Goals as goal
 
 pub returns-in-Accepted : goal.returns-in-Accepted
-returns-in-Accepted c = simp c.enum_told-1.given.1 c.on_tick.ensures
+returns-in-Accepted c = simp c.in-Accepted.is c.on_tick.ensures
 
 pub returns-in-Refused : goal.returns-in-Refused
-returns-in-Refused c = simp c.enum_told-in-Refused-1.given.1 (refl, sym (laid_same _ c.known.ensures))
+returns-in-Refused c = simp c.in-Refused.is (refl, sym (laid_same _ c.known.ensures))

@@ -3,25 +3,25 @@ use borrow.Author.Rules.{rules}
 use Rattle.journal_effects.proofs.is_missing.Goals as goal
 
 pub returns-in-Nothing : goal.returns-in-Nothing
-returns-in-Nothing c = rw c.enum_told-1.given.1 refl
+returns-in-Nothing c = rw c.in-Nothing.is refl
 
 pub returns-in-Path : goal.returns-in-Path
-returns-in-Path c = rw c.enum_told-in-Path-1.given.1 refl
+returns-in-Path c = rw c.in-Path.is refl
 
 pub returns-in-Burst : goal.returns-in-Burst
-returns-in-Burst c = rw c.enum_told-in-Burst-1.given.1 refl
+returns-in-Burst c = rw c.in-Burst.is refl
 
 pub returns-in-Upgrade : goal.returns-in-Upgrade
-returns-in-Upgrade c = rw c.enum_told-in-Upgrade-1.given.1 refl
+returns-in-Upgrade c = rw c.in-Upgrade.is refl
 
 pub returns-in-Close : goal.returns-in-Close
-returns-in-Close c = rw c.enum_told-in-Close-1.given.1 refl
+returns-in-Close c = rw c.in-Close.is refl
 
 pub returns-in-Send : goal.returns-in-Send
-returns-in-Send c = rw c.enum_told-in-Send-1.given.1 refl
+returns-in-Send c = rw c.in-Send.is refl
 
 pub returns-in-Reset : goal.returns-in-Reset
-returns-in-Reset c = rw c.enum_told-in-Reset-1.given.1 refl
+returns-in-Reset c = rw c.in-Reset.is refl
 
 pub returns-in-Open : goal.returns-in-Open
-returns-in-Open c = rw c.enum_told-in-Open-1.given.1 refl
+returns-in-Open c = rw c.in-Open.is refl

@@ -6,10 +6,10 @@ pub shape_of-out-in-At : goal.shape_of-out-in-At
 shape_of-out-in-At c = length_kept (laid _ _ _ c.put_attribution.ensures)
 
 pub returns-in-At : goal.returns-in-At
-returns-in-At c = rw c.found-1.given.1 c.put_attribution.ensures
+returns-in-At c = rw c.in-At.is c.put_attribution.ensures
 
 pub shape_of-out-in-None : goal.shape_of-out-in-None
 shape_of-out-in-None c = length_kept (laid _ _ _ c.put_owner.ensures)
 
 pub returns-in-None : goal.returns-in-None
-returns-in-None c = rw c.enum_told-1.given.1 c.put_owner.ensures
+returns-in-None c = rw c.in-None.is c.put_owner.ensures

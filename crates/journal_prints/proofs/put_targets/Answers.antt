@@ -7,31 +7,31 @@ use borrow.Author.Rules.{rules}
 use Rattle.journal_prints.proofs.put_targets.Goals as goal
 
 pub slice_bounds-put_hexadecimal-count : goal.slice_bounds-put_hexadecimal-count
-slice_bounds-put_hexadecimal-count c = omega (arith, stands c.args.list.now 0 c.e-1.given.1 c.entry_at-e.ensures)
+slice_bounds-put_hexadecimal-count c = omega (arith, stands c.args.list.now 0 c.in-Address.is c.entry_at-e.ensures)
 
 pub slice_bounds-put_hexadecimal-start : goal.slice_bounds-put_hexadecimal-start
-slice_bounds-put_hexadecimal-start c = omega (arith, stands c.args.list.now 0 c.e-1.given.1 c.entry_at-e.ensures)
+slice_bounds-put_hexadecimal-start c = omega (arith, stands c.args.list.now 0 c.in-Address.is c.entry_at-e.ensures)
 
 pub slice_bounds-put_hexadecimal-end : goal.slice_bounds-put_hexadecimal-end
-slice_bounds-put_hexadecimal-end c = omega (arith, stands c.args.list.now 0 c.e-1.given.1 c.entry_at-e.ensures)
+slice_bounds-put_hexadecimal-end c = omega (arith, stands c.args.list.now 0 c.in-Address.is c.entry_at-e.ensures)
 
 pub slice_bounds-put_others-count : goal.slice_bounds-put_others-count
-slice_bounds-put_others-count c = omega (arith, stands c.args.list.now 0 c.e-1.given.1 c.entry_at-e.ensures)
+slice_bounds-put_others-count c = omega (arith, stands c.args.list.now 0 c.in-Address.is c.entry_at-e.ensures)
 
 pub slice_bounds-put_others-start : goal.slice_bounds-put_others-start
-slice_bounds-put_others-start c = omega (arith, stands c.args.list.now 0 c.e-1.given.1 c.entry_at-e.ensures)
+slice_bounds-put_others-start c = omega (arith, stands c.args.list.now 0 c.in-Address.is c.entry_at-e.ensures)
 
 pub slice_bounds-put_others-end : goal.slice_bounds-put_others-end
-slice_bounds-put_others-end c = omega (arith, stands c.args.list.now 0 c.e-1.given.1 c.entry_at-e.ensures)
+slice_bounds-put_others-end c = omega (arith, stands c.args.list.now 0 c.in-Address.is c.entry_at-e.ensures)
 
 pub returns-in-End : goal.returns-in-End
-returns-in-End c = parts (targets_end _ _ c.args.list.now c.enum_told-1.given.1 c.entry_at-e.ensures)
+returns-in-End c = parts (targets_end _ _ c.args.list.now c.in-End.is c.entry_at-e.ensures)
 
 pub returns-in-Broken : goal.returns-in-Broken
-returns-in-Broken c = parts (targets_break _ _ c.args.list.now c.enum_told-in-Broken-1.given.1 c.entry_at-e.ensures)
+returns-in-Broken c = parts (targets_break _ _ c.args.list.now c.in-Broken.is c.entry_at-e.ensures)
 
 pub shape_of-out : goal.shape_of-out
 shape_of-out c = length_kept (laid _ _ _ c.put_others.ensures) ∙ length_kept (laid _ _ _ c.put_hexadecimal-p.ensures)
 
 pub returns-in-Address : goal.returns-in-Address
-returns-in-Address c = parts (targets_laid c.args.list.now (stands c.args.list.now 0 c.e-1.given.1 c.entry_at-e.ensures) (laid _ _ _ c.put_hexadecimal-p.ensures) (laid _ _ _ c.put_others.ensures))
+returns-in-Address c = parts (targets_laid c.args.list.now (stands c.args.list.now 0 c.in-Address.is c.entry_at-e.ensures) (laid _ _ _ c.put_hexadecimal-p.ensures) (laid _ _ _ c.put_others.ensures))

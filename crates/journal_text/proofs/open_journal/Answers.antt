@@ -8,8 +8,8 @@ use Rattle.journal_text.proofs.open_journal.Goals as goal
 
 pub returns-in-Settings : goal.returns-in-Settings
 unfolding opened
-returns-in-Settings c = (simp (c.enum_told-1.given.1, sym c.read_first-first.ensures), (c.new_journal-state.ensures ∙ ap (λ (x : Settings). state_of (new_journal x)) (c.settings_in-settings.ensures ∙ ap settings_in c.read_first-first.ensures), simp (c.enum_told-1.given.1, sym c.read_first-first.ensures) (parts (laid_none _ _))))
+returns-in-Settings c = (simp (c.in-Settings.is, sym c.read_first-first.ensures), (c.new_journal-state.ensures ∙ ap (λ (x : Settings). state_of (new_journal x)) (c.settings_in-settings.ensures ∙ ap settings_in c.read_first-first.ensures), simp (c.in-Settings.is, sym c.read_first-first.ensures) (parts (laid_none _ _))))
 
 pub returns-in-Unknown : goal.returns-in-Unknown
 unfolding opened
-returns-in-Unknown c = (simp (c.enum_told-in-Unknown-1.given.1, sym c.read_first-first.ensures), (c.new_journal-state.ensures ∙ ap (λ (x : Settings). state_of (new_journal x)) (c.settings_in-settings.ensures ∙ ap settings_in c.read_first-first.ensures), simp (c.enum_told-in-Unknown-1.given.1, sym c.read_first-first.ensures) c.put_refused-p.ensures))
+returns-in-Unknown c = (simp (c.in-Unknown.is, sym c.read_first-first.ensures), (c.new_journal-state.ensures ∙ ap (λ (x : Settings). state_of (new_journal x)) (c.settings_in-settings.ensures ∙ ap settings_in c.read_first-first.ensures), simp (c.in-Unknown.is, sym c.read_first-first.ensures) c.put_refused-p.ensures))

@@ -5,16 +5,16 @@ use Rattle.kinds.proofs.row_of.Goals as goal
 
 pub returns-in-Dialed : goal.returns-in-Dialed
 unfolding numbers_of
-returns-in-Dialed c = simp (sym c.dial_row.ensures, c.entry-1.given.1)
+returns-in-Dialed c = simp (sym c.dial_row.ensures, c.in-Dialed.is)
 
 pub returns-in-Window : goal.returns-in-Window
 unfolding numbers_of
-returns-in-Window c = simp c.entry-in-Window-1.given.1
+returns-in-Window c = simp c.in-Window.is
 
 pub returns-in-Path : goal.returns-in-Path
 unfolding numbers_of
-returns-in-Path c = simp (sym c.path_row.ensures, c.entry-in-Path-1.given.1)
+returns-in-Path c = simp (sym c.path_row.ensures, c.in-Path.is)
 
 pub returns-in-Other : goal.returns-in-Other
 unfolding numbers_of
-returns-in-Other c = simp c.enum_told-1.given.1
+returns-in-Other c = simp c.in-Other.is

@@ -4,4 +4,4 @@ use borrow.Author.Rules.{rules}
 use Rattle.live_dials.proofs.live_of.Goals as goal
 
 pub returns-in-At : goal.returns-in-At
-returns-in-At c = ap live_of (sym c.x-1.given.1)
+returns-in-At c = ap live_of (sym c.in-At.is)

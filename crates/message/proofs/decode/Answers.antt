@@ -8,13 +8,13 @@ pub returns-then-message-gt-MAX_MESSAGE_SIZE : goal.returns-then-message-gt-MAX_
 returns-then-message-gt-MAX_MESSAGE_SIZE c = read_long c.args.message.now c.args.out.now c.if-message-gt-MAX_MESSAGE_SIZE.true
 
 pub returns-then-out-size : goal.returns-then-out-size
-returns-then-out-size c = read_short c.args.message.now c.args.out.now c.if-message-gt-MAX_MESSAGE_SIZE.false c.measure.ensures c.kind-1.given.1 c.if-out-size.true
+returns-then-out-size c = read_short c.args.message.now c.args.out.now c.if-message-gt-MAX_MESSAGE_SIZE.false c.measure.ensures c.in-Good.is c.if-out-size.true
 
 pub put_addresses-requires : goal.put_addresses-requires
-put_addresses-requires c = (omega arith, read_good c.args.message.now c.args.out.now c.if-message-gt-MAX_MESSAGE_SIZE.false c.measure.ensures c.kind-1.given.1)
+put_addresses-requires c = (omega arith, read_good c.args.message.now c.args.out.now c.if-message-gt-MAX_MESSAGE_SIZE.false c.measure.ensures c.in-Good.is)
 
 pub returns-in-Refused : goal.returns-in-Refused
-returns-in-Refused c = read_refused c.args.message.now c.args.out.now c.if-message-gt-MAX_MESSAGE_SIZE.false c.measure.ensures c.why-1.given.1
+returns-in-Refused c = read_refused c.args.message.now c.args.out.now c.if-message-gt-MAX_MESSAGE_SIZE.false c.measure.ensures c.in-Refused.is
 
 pub returns-else-out-size : goal.returns-else-out-size
-returns-else-out-size c = read_done c.args.message.now c.args.out.now c.if-message-gt-MAX_MESSAGE_SIZE.false c.measure.ensures c.kind-1.given.1 c.if-out-size.false c.kind_of-k.ensures c.put_addresses.ensures
+returns-else-out-size c = read_done c.args.message.now c.args.out.now c.if-message-gt-MAX_MESSAGE_SIZE.false c.measure.ensures c.in-Good.is c.if-out-size.false c.kind_of-k.ensures c.put_addresses.ensures

@@ -15,15 +15,15 @@ unfolding encode_of encode_into
 returns-then-out-size c =
     let a = c.args in
     let m = message_bytes a.kind (entries a.list.now) in
-    let z = size_is a.list.now m c.message_size.ensures c.size-1.given.1 in
-    write_short a.list.now m m a.out.now c.message_size.ensures c.size-1.given.1 (omega arith)
+    let z = size_is a.list.now m c.message_size.ensures c.in-Message.is in
+    write_short a.list.now m m a.out.now c.message_size.ensures c.in-Message.is (omega arith)
 
 pub put_message-requires : goal.put_message-requires
 unfolding encode_of
 put_message-requires c =
     let a = c.args in
     let m = message_bytes a.kind (entries a.list.now) in
-    let z = size_is a.list.now m c.message_size.ensures c.size-1.given.1 in
+    let z = size_is a.list.now m c.message_size.ensures c.in-Message.is in
     let b = message_adds a.kind (entries a.list.now) c.type_number-number.ensures in
     omega arith
 
@@ -32,13 +32,13 @@ unfolding encode_of encode_into
 returns-in-Refused c =
     let a = c.args in
     let m = message_bytes a.kind (entries a.list.now) in
-    write_refused a.list.now m m a.out.now c.message_size.ensures c.why-1.given.1
+    write_refused a.list.now m m a.out.now c.message_size.ensures c.in-Refused.is
 
 pub returns-else-out-size : goal.returns-else-out-size
 unfolding encode_of encode_into
 returns-else-out-size c =
     let a = c.args in
     let m = message_bytes a.kind (entries a.list.now) in
-    let z = size_is a.list.now m c.message_size.ensures c.size-1.given.1 in
-    write_done a.list.now m m a.out.now c.message_size.ensures c.size-1.given.1 (omega arith) z.1
+    let z = size_is a.list.now m c.message_size.ensures c.in-Message.is in
+    write_done a.list.now m m a.out.now c.message_size.ensures c.in-Message.is (omega arith) z.1
     (c.put_message.ensures ∙ ap (λ (x : ℕ). sets a.out.now 0 (type_field x ++ address_fields (entries a.list.now))) c.type_number-number.ensures)

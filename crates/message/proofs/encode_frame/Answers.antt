@@ -18,7 +18,7 @@ unfolding encode_of
 overflow_add-head c =
     let a = c.args in
     let m = message_bytes a.kind (entries a.list.now) in
-    let z = size_is a.list.now m c.message_size.ensures c.size-1.given.1 in
+    let z = size_is a.list.now m c.message_size.ensures c.in-Message.is in
     omega (arith, groups_most 9 (length m), ap (λ (x : ℕ). length (encoded x)) z.1)
 
 pub returns-then-out-head : goal.returns-then-out-head
@@ -28,9 +28,9 @@ returns-then-out-head c =
     let xs = entries a.list.now in
     let m = message_bytes a.kind xs in
     let b = frame_bytes a.kind xs in
-    let z = size_is a.list.now m c.message_size.ensures c.size-1.given.1 in
+    let z = size_is a.list.now m c.message_size.ensures c.in-Message.is in
     let f = frame_adds m z.1 c.varint_len-head.ensures in
-    write_short a.list.now m b a.out.now c.message_size.ensures c.size-1.given.1 (omega arith)
+    write_short a.list.now m b a.out.now c.message_size.ensures c.in-Message.is (omega arith)
 
 pub put_message-requires : goal.put_message-requires
 unfolding encode_of
@@ -38,7 +38,7 @@ put_message-requires c =
     let a = c.args in
     let xs = entries a.list.now in
     let m = message_bytes a.kind xs in
-    let z = size_is a.list.now m c.message_size.ensures c.size-1.given.1 in
+    let z = size_is a.list.now m c.message_size.ensures c.in-Message.is in
     let b = message_adds a.kind xs c.type_number-number.ensures in
     let k : length c.put_varint.new.1.0 ≡ length a.out.now = c.put_varint.auto.1.0 in
     omega arith
@@ -48,7 +48,7 @@ unfolding encode_of frame_encode_of frame_encode_into
 returns-in-Refused c =
     let a = c.args in
     let xs = entries a.list.now in
-    write_refused a.list.now (message_bytes a.kind xs) (frame_bytes a.kind xs) a.out.now c.message_size.ensures c.why-1.given.1
+    write_refused a.list.now (message_bytes a.kind xs) (frame_bytes a.kind xs) a.out.now c.message_size.ensures c.in-Refused.is
 
 pub returns-else-out-head : goal.returns-else-out-head
 unfolding encode_of frame_encode_of frame_encode_into
@@ -57,8 +57,8 @@ returns-else-out-head c =
     let xs = entries a.list.now in
     let m = message_bytes a.kind xs in
     let b = frame_bytes a.kind xs in
-    let z = size_is a.list.now m c.message_size.ensures c.size-1.given.1 in
+    let z = size_is a.list.now m c.message_size.ensures c.in-Message.is in
     let f = frame_adds m z.1 c.varint_len-head.ensures in
-    write_done a.list.now m b a.out.now c.message_size.ensures c.size-1.given.1 (omega arith) f
+    write_done a.list.now m b a.out.now c.message_size.ensures c.in-Message.is (omega arith) f
     (frame_stored a.out.now m z.1 c.varint_len-head.ensures c.put_varint.ensures
     (c.put_message.ensures ∙ ap (λ (x : ℕ). sets c.put_varint.new.1.0 c.varint_len-head.result (type_field x ++ address_fields xs)) c.type_number-number.ensures))

@@ -11,33 +11,33 @@ pub loop-start-init : goal.loop-start-init
 loop-start-init c = count_none _
 
 pub returns-in-End : goal.returns-in-End
-returns-in-End c = count_all _ _ _ c.loop-start.invariant (entries_end _ _ c.enum_told-1.given.1 c.entry_at-e.ensures)
+returns-in-End c = count_all _ _ _ c.loop-start.invariant (entries_end _ _ c.in-End.is c.entry_at-e.ensures)
 
 pub returns-in-Broken : goal.returns-in-Broken
-returns-in-Broken c = count_all _ _ _ c.loop-start.invariant (entries_break _ _ c.enum_told-in-Broken-1.given.1 c.entry_at-e.ensures)
+returns-in-Broken c = count_all _ _ _ c.loop-start.invariant (entries_break _ _ c.in-Broken.is c.entry_at-e.ensures)
 
 pub overflow_sub-len : goal.overflow_sub-len
-overflow_sub-len c = omega (arith, stands c.args.list.now c.loop-start.at c.e-1.given.1 c.entry_at-e.ensures)
+overflow_sub-len c = omega (arith, stands c.args.list.now c.loop-start.at c.in-Address.is c.entry_at-e.ensures)
 
 pub overflow_add-size : goal.overflow_add-size
 overflow_add-size c =
-    let w = stands c.args.list.now c.loop-start.at c.e-1.given.1 c.entry_at-e.ensures in
+    let w = stands c.args.list.now c.loop-start.at c.in-Address.is c.entry_at-e.ensures in
     omega (arith, field_small c.args.list.now c.loop-start.at w, c.loop-start.invariant.small, c.loop-start.invariant.inside)
 
 pub overflow_add-size-in-Address : goal.overflow_add-size-in-Address
 overflow_add-size-in-Address c =
-    let w = stands c.args.list.now c.loop-start.at c.e-1.given.1 c.entry_at-e.ensures in
+    let w = stands c.args.list.now c.loop-start.at c.in-Address.is c.entry_at-e.ensures in
     omega (arith, field_small c.args.list.now c.loop-start.at w, c.loop-start.invariant.small, c.loop-start.invariant.inside)
 
 pub overflow_add-size-in-Address-2 : goal.overflow_add-size-in-Address-2
 overflow_add-size-in-Address-2 c =
-    let w = stands c.args.list.now c.loop-start.at c.e-1.given.1 c.entry_at-e.ensures in
+    let w = stands c.args.list.now c.loop-start.at c.in-Address.is c.entry_at-e.ensures in
     omega (arith, field_small c.args.list.now c.loop-start.at w, c.loop-start.invariant.small, c.loop-start.invariant.inside)
 
 pub loop-start-smaller : goal.loop-start-smaller
-loop-start-smaller c = omega (arith, stands c.args.list.now c.loop-start.at c.e-1.given.1 c.entry_at-e.ensures)
+loop-start-smaller c = omega (arith, stands c.args.list.now c.loop-start.at c.in-Address.is c.entry_at-e.ensures)
 
 pub loop-start-preserved : goal.loop-start-preserved
 loop-start-preserved c =
-    let w = stands c.args.list.now c.loop-start.at c.e-1.given.1 c.entry_at-e.ensures in
+    let w = stands c.args.list.now c.loop-start.at c.in-Address.is c.entry_at-e.ensures in
     count_more c.args.list.now c.loop-start.at w c.loop-start.invariant c.varint_len.ensures

@@ -6,25 +6,25 @@ use borrow.Author.Rules.{rules}
 use Rattle.protobuf.proofs.bytes_field.Goals as goal
 
 pub overflow_sub-left : goal.overflow_sub-left
-overflow_sub-left c = omega (arith, size_of c.args.s.now c.first_varint.ensures c.value-1.given.1)
+overflow_sub-left c = omega (arith, size_of c.args.s.now c.first_varint.ensures c.in-Value.is)
 
 pub returns-then-left-value : goal.returns-then-left-value
-returns-then-left-value c = bytes_cut _ _ c.args.s.now c.first_varint.ensures c.value-1.given.1 c.if-left-value.true
+returns-then-left-value c = bytes_cut _ _ c.args.s.now c.first_varint.ensures c.in-Value.is c.if-left-value.true
 
 pub overflow_add-result : goal.overflow_add-result
-overflow_add-result c = omega (arith, size_of c.args.s.now c.first_varint.ensures c.value-1.given.1)
+overflow_add-result c = omega (arith, size_of c.args.s.now c.first_varint.ensures c.in-Value.is)
 
 pub overflow_add-result-else-n-eq2 : goal.overflow_add-result-else-n-eq2
-overflow_add-result-else-n-eq2 c = omega (arith, size_of c.args.s.now c.first_varint.ensures c.value-1.given.1)
+overflow_add-result-else-n-eq2 c = omega (arith, size_of c.args.s.now c.first_varint.ensures c.in-Value.is)
 
 pub overflow_add-result-else-n-eq2-2 : goal.overflow_add-result-else-n-eq2-2
-overflow_add-result-else-n-eq2-2 c = omega (arith, size_of c.args.s.now c.first_varint.ensures c.value-1.given.1)
+overflow_add-result-else-n-eq2-2 c = omega (arith, size_of c.args.s.now c.first_varint.ensures c.in-Value.is)
 
 pub returns-in-Malformed : goal.returns-in-Malformed
-returns-in-Malformed c = simp (c.enum_told-1.given.1, sym c.first_varint.ensures)
+returns-in-Malformed c = simp (c.in-Malformed.is, sym c.first_varint.ensures)
 
 pub returns-then-n-eq2 : goal.returns-then-n-eq2
-returns-then-n-eq2 c = bytes_address _ _ c.args.s.now c.first_varint.ensures c.value-1.given.1 c.if-left-value.false c.if-n-eq2.true
+returns-then-n-eq2 c = bytes_address _ _ c.args.s.now c.first_varint.ensures c.in-Value.is c.if-left-value.false c.if-n-eq2.true
 
 pub returns-else-n-eq2 : goal.returns-else-n-eq2
-returns-else-n-eq2 c = bytes_other _ _ c.args.s.now c.first_varint.ensures c.value-1.given.1 c.if-left-value.false c.if-n-eq2.false
+returns-else-n-eq2 c = bytes_other _ _ c.args.s.now c.first_varint.ensures c.in-Value.is c.if-left-value.false c.if-n-eq2.false

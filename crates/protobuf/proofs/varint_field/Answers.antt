@@ -7,16 +7,16 @@ use borrow.Author.Rules.{rules}
 use Rattle.protobuf.proofs.varint_field.Goals as goal
 
 pub overflow_add-result : goal.overflow_add-result
-overflow_add-result c = omega (arith, size_of c.args.s.now c.first_varint.ensures c.value-1.given.1)
+overflow_add-result c = omega (arith, size_of c.args.s.now c.first_varint.ensures c.in-Value.is)
 
 pub overflow_add-result-else-n-eq1 : goal.overflow_add-result-else-n-eq1
-overflow_add-result-else-n-eq1 c = omega (arith, size_of c.args.s.now c.first_varint.ensures c.value-1.given.1)
+overflow_add-result-else-n-eq1 c = omega (arith, size_of c.args.s.now c.first_varint.ensures c.in-Value.is)
 
 pub returns-in-Malformed : goal.returns-in-Malformed
-returns-in-Malformed c = simp (c.enum_told-1.given.1, sym c.first_varint.ensures)
+returns-in-Malformed c = simp (c.in-Malformed.is, sym c.first_varint.ensures)
 
 pub returns-then-n-eq1 : goal.returns-then-n-eq1
-returns-then-n-eq1 c = simp (eq-eqb _ _ c.if-n-eq1.true, c.value-1.given.1, sym c.first_varint.ensures)
+returns-then-n-eq1 c = simp (eq-eqb _ _ c.if-n-eq1.true, c.in-Value.is, sym c.first_varint.ensures)
 
 pub returns-else-n-eq1 : goal.returns-else-n-eq1
-returns-else-n-eq1 c = simp (ne_eqb _ _ c.if-n-eq1.false, c.value-1.given.1, sym c.first_varint.ensures)
+returns-else-n-eq1 c = simp (ne_eqb _ _ c.if-n-eq1.false, c.in-Value.is, sym c.first_varint.ensures)

@@ -19,11 +19,11 @@ pub returns-in-At : goal.returns-in-At
 returns-in-At c =
     let a = c.args in
     let rs = rows_from a.b a.l.now in
-    let h = one_removed a.key rs (sym c.find_from-found.ensures ∙ c.enum_told-1.given.1) in
+    let h = one_removed a.key rs (sym c.find_from-found.ensures ∙ c.in-At.is) in
     sym (lt-leb 64 (length (without a.key rs)) (omega arith))
 
 pub returns-in-Nothing : goal.returns-in-Nothing
 returns-in-Nothing c =
     let a = c.args in
     let rs = rows_from a.b a.l.now in
-    rw (none_removed a.key rs (sym c.find_from-found.ensures ∙ c.enum_told-in-Nothing-1.given.1)) (sym (le-leb 64 (length rs) (omega arith)))
+    rw (none_removed a.key rs (sym c.find_from-found.ensures ∙ c.in-Nothing.is)) (sym (le-leb 64 (length rs) (omega arith)))

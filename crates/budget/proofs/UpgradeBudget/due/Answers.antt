@@ -7,15 +7,15 @@ use Rattle.budget.proofs.UpgradeBudget.due.Goals as goal
 
 pub returns-then-end-self : goal.returns-then-end-self
 returns-then-end-self c =
-    exchange_due _ _ _ _ _ c.running-1.given.1 c.if-end-now.true c.if-end-self.true c.saturating_sub-budget_ms.ensures
+    exchange_due _ _ _ _ _ c.in-Running.is c.if-end-now.true c.if-end-self.true c.saturating_sub-budget_ms.ensures
 
 pub returns-in-Running : goal.returns-in-Running
 returns-in-Running c =
     c.upgrade_due.ensures
-    ∙ ⊎_elim (λ w. cut_due _ _ _ _ c.running-1.given.1 w.0.taken w.2.left)
-    (λ w. running_due _ _ _ _ c.running-1.given.1 w.left)
+    ∙ ⊎_elim (λ w. cut_due _ _ _ _ c.in-Running.is w.0.taken w.2.left)
+    (λ w. running_due _ _ _ _ c.in-Running.is w.left)
     c.else-end-now.branch
 
 pub returns-in-Idle : goal.returns-in-Idle
 unfolding due_at
-returns-in-Idle c = simp (sym c.upgrade_due-in-Idle.ensures, c.enum_told-1.given.1)
+returns-in-Idle c = simp (sym c.upgrade_due-in-Idle.ensures, c.in-Idle.is)

@@ -5,8 +5,8 @@ use Rattle.budget.proofs.UpgradeBudget.next_deadline.Goals as goal
 
 pub returns-in-Running : goal.returns-in-Running
 unfolding next_deadline
-returns-in-Running c = simp (sym c.min.ensures, c.running-1.given.1)
+returns-in-Running c = simp (sym c.min.ensures, c.in-Running.is)
 
 pub returns-in-Idle : goal.returns-in-Idle
 unfolding next_deadline
-returns-in-Idle c = simp c.enum_told-1.given.1
+returns-in-Idle c = simp c.in-Idle.is

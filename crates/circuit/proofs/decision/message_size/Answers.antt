@@ -5,12 +5,12 @@ use Rattle.circuit.proofs.decision.message_size.Goals as goal
 
 pub returns-in-None : goal.returns-in-None
 unfolding length_of
-returns-in-None c = simp c.enum_told-1.given.1
+returns-in-None c = simp c.in-None.is
 
 pub returns-in-Connect : goal.returns-in-Connect
 unfolding length_of
-returns-in-Connect c = simp c.message-1.given.1
+returns-in-Connect c = simp c.in-Connect.is
 
 pub returns-in-Sync : goal.returns-in-Sync
 unfolding length_of
-returns-in-Sync c = simp (sym c.sync_frame-sync.ensures, c.enum_told-in-Sync-1.given.1)
+returns-in-Sync c = simp (sym c.sync_frame-sync.ensures, c.in-Sync.is)

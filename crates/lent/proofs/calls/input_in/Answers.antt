@@ -11,12 +11,12 @@ returns-then-buffer-lt-MAX_FRAME_SIZE c = short_left c.args.c _ c.args.host c.ar
 
 pub returns-in-Refused : goal.returns-in-Refused
 unfolding buffer_after input_in targets_after
-returns-in-Refused c = turned_left c.args.c _ c.args.host c.args.targets.now c.args.buffer.now c.args.stream c.args.input c.args.bytes.now c.args.pending c.args.own.now c.if-buffer-lt-MAX_FRAME_SIZE.false c.checked-check.ensures c.check-1.given.1 c.refused-in-Refused.ensures
+returns-in-Refused c = turned_left c.args.c _ c.args.host c.args.targets.now c.args.buffer.now c.args.stream c.args.input c.args.bytes.now c.args.pending c.args.own.now c.if-buffer-lt-MAX_FRAME_SIZE.false c.checked-check.ensures c.in-Refused.is c.refused-in-Refused.ensures
 
 pub returns-then-awaits_reply : goal.returns-then-awaits_reply
 unfolding buffer_after input_in targets_after
-returns-then-awaits_reply c = heard_left c.args.c _ c.args.host c.args.targets.now c.args.buffer.now c.args.stream c.args.input c.args.bytes.now c.args.pending c.args.own.now c.if-buffer-lt-MAX_FRAME_SIZE.false c.checked-check.ensures c.enum_told-1.given.1 c.awaits_reply.ensures c.if-awaits_reply.true c.hear.ensures
+returns-then-awaits_reply c = heard_left c.args.c _ c.args.host c.args.targets.now c.args.buffer.now c.args.stream c.args.input c.args.bytes.now c.args.pending c.args.own.now c.if-buffer-lt-MAX_FRAME_SIZE.false c.checked-check.ensures c.in-Accepted.is c.awaits_reply.ensures c.if-awaits_reply.true c.hear.ensures
 
 pub returns-in-Accepted : goal.returns-in-Accepted
 unfolding buffer_after input_in targets_after
-returns-in-Accepted c = unheard_left c.args.c _ c.args.host c.args.targets.now c.args.buffer.now c.args.stream c.args.input c.args.bytes.now c.args.pending c.args.own.now c.if-buffer-lt-MAX_FRAME_SIZE.false c.checked-check.ensures c.enum_told-1.given.1 c.awaits_reply.ensures c.if-awaits_reply.false c.input.ensures
+returns-in-Accepted c = unheard_left c.args.c _ c.args.host c.args.targets.now c.args.buffer.now c.args.stream c.args.input c.args.bytes.now c.args.pending c.args.own.now c.if-buffer-lt-MAX_FRAME_SIZE.false c.checked-check.ensures c.in-Accepted.is c.awaits_reply.ensures c.if-awaits_reply.false c.input.ensures

@@ -5,8 +5,8 @@ use Rattle.lent.proofs.calls.tick_in.Goals as goal
 
 pub returns-in-Refused : goal.returns-in-Refused
 unfolding tick_in
-returns-in-Refused c = simp (sym c.refused.ensures, c.check-1.given.1, sym c.checked-check.ensures)
+returns-in-Refused c = simp (sym c.refused.ensures, c.in-Refused.is, sym c.checked-check.ensures)
 
 pub returns-in-Accepted : goal.returns-in-Accepted
 unfolding tick_in
-returns-in-Accepted c = simp (sym c.tick.ensures, c.enum_told-1.given.1, sym c.checked-check.ensures)
+returns-in-Accepted c = simp (sym c.tick.ensures, c.in-Accepted.is, sym c.checked-check.ensures)

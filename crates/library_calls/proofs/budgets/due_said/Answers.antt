@@ -3,10 +3,10 @@ use borrow.Author.Rules.{rules}
 use Rattle.library_calls.proofs.budgets.due_said.Goals as goal
 
 pub returns-in-None : goal.returns-in-None
-returns-in-None c = simp (sym c.say.ensures, c.enum_told-1.given.1)
+returns-in-None c = simp (sym c.say.ensures, c.in-None.is)
 
 pub returns-in-ExchangeTimeout : goal.returns-in-ExchangeTimeout
-returns-in-ExchangeTimeout c = simp (sym c.say-in-ExchangeTimeout.ensures, c.stop-1.given.1)
+returns-in-ExchangeTimeout c = simp (sym c.say-in-ExchangeTimeout.ensures, c.in-ExchangeTimeout.is)
 
 pub returns-in-UpgradeTimeout : goal.returns-in-UpgradeTimeout
-returns-in-UpgradeTimeout c = simp (sym c.say-in-UpgradeTimeout.ensures, c.stop-in-UpgradeTimeout-1.given.1)
+returns-in-UpgradeTimeout c = simp (sym c.say-in-UpgradeTimeout.ensures, c.in-UpgradeTimeout.is)

@@ -5,4 +5,4 @@ use Rattle.library_calls.proofs.schedules.replied.Goals as goal
 
 pub returns : goal.returns
 unfolding replied_turn
-returns c = simp (sym c.opened.ensures, sym c.«open».ensures, sym c.window_end-end.ensures, sym c.blast_start-start.ensures)
+returns c = simp (sym c.opened.ensures, sym c.open-d.ensures, sym c.window_end-end.ensures, sym c.blast_start-start.ensures)

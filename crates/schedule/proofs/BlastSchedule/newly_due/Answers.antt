@@ -7,8 +7,8 @@ use Rattle.schedule.proofs.BlastSchedule.newly_due.Goals as goal
 
 pub returns-in-Next : goal.returns-in-Next
 unfolding due_of times_of without ahead
-returns-in-Next c = simp (c.self-1.given.1, sym c.count_due-times.ensures, sym c.move_on-schedule.ensures)
+returns-in-Next c = simp (c.in-Next.is, sym c.count_due-times.ensures, sym c.move_on-schedule.ensures)
 
 pub returns-in-Over : goal.returns-in-Over
 unfolding due_of times_of without ahead count_to count
-returns-in-Over c = simp c.enum_told-1.given.1
+returns-in-Over c = simp c.in-Over.is

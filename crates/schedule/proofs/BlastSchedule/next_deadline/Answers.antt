@@ -5,8 +5,8 @@ use Rattle.schedule.proofs.BlastSchedule.next_deadline.Goals as goal
 
 pub returns-in-Next : goal.returns-in-Next
 unfolding next_of
-returns-in-Next c = simp (c.self-1.given.1, sym c.min.ensures, sym c.min-in-Next.ensures)
+returns-in-Next c = simp (c.in-Next.is, sym c.min.ensures, sym c.min-in-Next.ensures)
 
 pub returns-in-Over : goal.returns-in-Over
 unfolding next_of
-returns-in-Over c = simp c.enum_told-1.given.1
+returns-in-Over c = simp c.in-Over.is
