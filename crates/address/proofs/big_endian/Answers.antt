@@ -32,4 +32,4 @@ pub returns : goal.returns
 returns c =
     let l = c.loop-i in
     let e : l.i ≡ length c.args.s.now = omega arith in
-    (sym (l.invariant.1.1 ∙ digit_end l.v _ l.i c.loop-i-test.false), subst (λ (n : ℕ). l.v < 2 ^ (8 * n)) e l.invariant.1.0)
+    record { value = sym (l.invariant.1.1 ∙ digit_end l.v _ l.i c.loop-i-test.false); small = subst (λ (n : ℕ). l.v < 2 ^ (8 * n)) e l.invariant.1.0 }

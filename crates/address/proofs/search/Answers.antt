@@ -15,17 +15,17 @@ pub returns-then-lies_in : goal.returns-then-lies_in
 returns-then-lies_in c =
     let s = c.args in
     let l = c.loop-i in
-    sym (ap (λ (r : Range). r.1) (l.invariant.1 ∙ found s.ip _ s.t1 l.i (search rules) _ c.lies_in.ensures c.if-lies_in.true))
+    sym (ap (λ (r : Range). r.1) (l.invariant.1 ∙ found s.ip _ s.rows l.i (search rules) _ c.lies_in.ensures c.if-lies_in.true))
 
 pub loop-i-preserved : goal.loop-i-preserved
 loop-i-preserved c =
     let s = c.args in
     let l = c.loop-i in
-    (omega arith, l.invariant.1 ∙ passed_over s.ip _ s.t1 l.i (search rules) _ c.lies_in.ensures c.if-lies_in.false)
+    (omega arith, l.invariant.1 ∙ passed_over s.ip _ s.rows l.i (search rules) _ c.lies_in.ensures c.if-lies_in.false)
 
 pub returns : goal.returns
 returns c =
     let s = c.args in
     let l = c.loop-i in
-    let n : length s.t1 ≡ 33 = search rules in
-    sym (ap (λ (r : Range). r.1) (l.invariant.1 ∙ search_end s.ip s.t1 l.i (omega arith)))
+    let n : length s.rows ≡ 33 = search rules in
+    sym (ap (λ (r : Range). r.1) (l.invariant.1 ∙ search_end s.ip s.rows l.i (omega arith)))

@@ -9,4 +9,4 @@ pub returns-then-e-s-gt-LONGEST : goal.returns-then-e-s-gt-LONGEST
 returns-then-e-s-gt-LONGEST c = bytes_many _ _ _ c.least-e.ensures c.blank-bytes.ensures c.if-e-s-gt-LONGEST.true
 
 pub returns : goal.returns
-returns c = bytes_read _ _ _ c.least-e.ensures c.blank-bytes.ensures c.if-e-s-gt-LONGEST.false c.read_hexadecimal-n.ensures
+returns c = bytes_read _ _ _ c.least-e.ensures c.blank-bytes.ensures c.if-e-s-gt-LONGEST.false (c.read_hexadecimal-n.ensures.bytes, c.read_hexadecimal-n.ensures.place)

@@ -14,10 +14,10 @@ pub overflow_add-end : goal.overflow_add-end
 overflow_add-end c = omega (arith, end_within c.args.separator c.args.s.now c.loop-left.at c.loop-left.invariant.0 c.length_before.ensures)
 
 pub returns-then-left-eq0 : goal.returns-then-left-eq0
-returns-then-left-eq0 c = (part_here _ _ _ c.loop-left.invariant.0 c.length_before.ensures _ _ c.loop-left.invariant.1 c.if-left-eq0.true, (omega arith, end_within c.args.separator c.args.s.now c.loop-left.at c.loop-left.invariant.0 c.length_before.ensures))
+returns-then-left-eq0 c = record { place = part_here _ _ _ c.loop-left.invariant.0 c.length_before.ensures _ _ c.loop-left.invariant.1 c.if-left-eq0.true; within = (omega arith, end_within c.args.separator c.args.s.now c.loop-left.at c.loop-left.invariant.0 c.length_before.ensures) }
 
 pub returns-then-s-end : goal.returns-then-s-end
-returns-then-s-end c = (part_missing _ _ _ c.loop-left.invariant.0 c.length_before.ensures _ _ c.loop-left.invariant.1 c.if-left-eq0.false c.if-s-end.true, (omega arith, omega arith))
+returns-then-s-end c = record { place = part_missing _ _ _ c.loop-left.invariant.0 c.length_before.ensures _ _ c.loop-left.invariant.1 c.if-left-eq0.false c.if-s-end.true; within = (omega arith, omega arith) }
 
 pub overflow_sub-left : goal.overflow_sub-left
 overflow_sub-left c = omega (arith, c.if-left-eq0.false)

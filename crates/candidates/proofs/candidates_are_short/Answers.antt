@@ -2,4 +2,4 @@ use Rattle.candidates.proofs.Promises.{selection_short, own_short}
 use Rattle.candidates.proofs.candidates_are_short.Goals as goal
 
 pub returns : goal.returns
-returns c = (selection_short, own_short)
+returns c = record { selected = selection_short; own = own_short }

@@ -24,19 +24,19 @@ pub returns-in-Broken : goal.returns-in-Broken
 returns-in-Broken c = holds_not c.args.a.now c.args.list.now c.loop-start.at c.loop-start.invariant.1 (entries_break _ _ c.in-Broken.is c.entry_at-e.ensures)
 
 pub slice_bounds-same_bytes-count : goal.slice_bounds-same_bytes-count
-slice_bounds-same_bytes-count c = omega (arith, here c.before)
+slice_bounds-same_bytes-count c = omega (arith, here c)
 
 pub slice_bounds-same_bytes-start : goal.slice_bounds-same_bytes-start
-slice_bounds-same_bytes-start c = omega (arith, here c.before)
+slice_bounds-same_bytes-start c = omega (arith, here c)
 
 pub slice_bounds-same_bytes-end : goal.slice_bounds-same_bytes-end
-slice_bounds-same_bytes-end c = omega (arith, here c.before)
+slice_bounds-same_bytes-end c = omega (arith, here c)
 
 pub returns-then-same_bytes : goal.returns-then-same_bytes
-returns-then-same_bytes c = holds_here c.args.a.now c.args.list.now c.loop-start.at (here c.before.before.before.before) c.loop-start.invariant.1 c.same_bytes.ensures c.if-same_bytes.true
+returns-then-same_bytes c = holds_here c.args.a.now c.args.list.now c.loop-start.at (here c) c.loop-start.invariant.1 c.same_bytes.ensures c.if-same_bytes.true
 
 pub loop-start-smaller : goal.loop-start-smaller
-loop-start-smaller c = omega (arith, here c.before.before.before.before)
+loop-start-smaller c = omega (arith, here c)
 
 pub loop-start-preserved : goal.loop-start-preserved
-loop-start-preserved c = ((here c.before.before.before.before).inside, holds_on c.args.a.now c.args.list.now c.loop-start.at (here c.before.before.before.before) c.loop-start.invariant.1 c.same_bytes.ensures c.if-same_bytes.false)
+loop-start-preserved c = ((here c).inside, holds_on c.args.a.now c.args.list.now c.loop-start.at (here c) c.loop-start.invariant.1 c.same_bytes.ensures c.if-same_bytes.false)

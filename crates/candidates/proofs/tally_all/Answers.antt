@@ -21,19 +21,19 @@ pub returns-in-Broken : goal.returns-in-Broken
 returns-in-Broken c = count_all _ _ _ _ c.loop-n.invariant (entries_break _ _ c.in-Broken.is c.entry_at-e.ensures)
 
 pub slice_bounds-tally-count : goal.slice_bounds-tally-count
-slice_bounds-tally-count c = omega (arith, here c.before)
+slice_bounds-tally-count c = omega (arith, here c)
 
 pub slice_bounds-tally-start : goal.slice_bounds-tally-start
-slice_bounds-tally-start c = omega (arith, here c.before)
+slice_bounds-tally-start c = omega (arith, here c)
 
 pub slice_bounds-tally-end : goal.slice_bounds-tally-end
-slice_bounds-tally-end c = omega (arith, here c.before)
+slice_bounds-tally-end c = omega (arith, here c)
 
 pub tally-n-requires : goal.tally-n-requires
 tally-n-requires c = omega (arith, c.well-formed, c.loop-n.invariant)
 
 pub loop-n-smaller : goal.loop-n-smaller
-loop-n-smaller c = omega (arith, here c.before.before.before)
+loop-n-smaller c = omega (arith, here c)
 
 pub loop-n-preserved : goal.loop-n-preserved
-loop-n-preserved c = count_more _ _ _ _ c.loop-n.invariant (here c.before.before.before) c.tally-n.ensures
+loop-n-preserved c = count_more _ _ _ _ c.loop-n.invariant (here c) c.tally-n.ensures

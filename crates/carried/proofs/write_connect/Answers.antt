@@ -6,8 +6,8 @@ use Rattle.carried.proofs.write_connect.Goals as goal
 
 pub returns-then-is_open : goal.returns-then-is_open
 unfolding connect_after framed_by
-returns-then-is_open c = connect_written c.args.terms c.args.own.now c.args.connect.now c.args.d (sym c.is_open.ensures ∙ c.if-is_open.true) c.own_connect-framed.ensures c.copy_frame.ensures
+returns-then-is_open c = record { answer = (connect_written c.args.terms c.args.own.now c.args.connect.now c.args.d (sym c.is_open.ensures ∙ c.if-is_open.true) c.own_connect-framed.ensures c.copy_frame.ensures).0; connect = (connect_written c.args.terms c.args.own.now c.args.connect.now c.args.d (sym c.is_open.ensures ∙ c.if-is_open.true) c.own_connect-framed.ensures c.copy_frame.ensures).1 }
 
 pub returns : goal.returns
 unfolding connect_after framed_by
-returns c = connect_stays c.args.terms c.args.own.now c.args.connect.now c.args.d (sym c.is_open.ensures ∙ c.if-is_open.false)
+returns c = record { answer = (connect_stays c.args.terms c.args.own.now c.args.connect.now c.args.d (sym c.is_open.ensures ∙ c.if-is_open.false)).0; connect = (connect_stays c.args.terms c.args.own.now c.args.connect.now c.args.d (sym c.is_open.ensures ∙ c.if-is_open.false)).1 }

@@ -8,4 +8,4 @@ pub returns : goal.returns
 returns c =
     let a = c.args in
     line_answered (whole a.j a.connect.now a.targets.now (tables_of a.ledger.now) a.ledger.now a.sent.now) a.reply.now a.line.now
-    a.ended a.out.now _ c.take_line-t.ensures c.ask-a.ensures c.put_answers-end.ensures
+    a.ended a.out.now _ (c.take_line-t.ensures.turn, c.take_line-t.ensures.reply) c.ask-a.ensures (c.put_answers-end.ensures.bytes, c.put_answers-end.ensures.place)

@@ -22,4 +22,4 @@ returns c =
     let rs = rows_of Dials w in
     let f64 : length a.firsts.rows ≡ 64 = simp length-map at c.well-formed.1.1.0.1.1.0.1.0.1 in
     let h : length rs ≤ length a.firsts.rows = omega (arith, used_is 0 w) in
-    (rw (c.retired_of-retired.ensures, c.closed_of-close.ensures) refl, c.retain_marked.ensures ∙ ap (λ (xs : List Row). laid Dials xs w) (ap (λ (ms : Marks). marked ms.keep rs) c.staying_of-marks.ensures ∙ staying_left a.id rs a.firsts.rows h))
+    record { answer = rw (c.retired_of-retired.ensures, c.closed_of-close.ensures) refl; words = c.retain_marked.ensures ∙ ap (λ (xs : List Row). laid Dials xs w) (ap (λ (ms : Marks). marked ms.keep rs) c.staying_of-marks.ensures ∙ staying_left a.id rs a.firsts.rows h) }

@@ -30,13 +30,13 @@ pub shape_of-out-then-j-eq0 : goal.shape_of-out-then-j-eq0
 shape_of-out-then-j-eq0 c = c.put_text.auto.1.0 ∙ ap length c.loop-j.invariant.2
 
 pub returns-then-j-eq0 : goal.returns-then-j-eq0
-returns-then-j-eq0 c = parts (from c.loop-j.invariant.2 (same (this_word _ _ _ _ c.loop-j.invariant.1 c.loop-j.invariant.0 c.length_before-n.ensures c.if-j-eq0.true) (laid _ _ _ c.put_text.ensures)))
+returns-then-j-eq0 c = record { bytes = (parts (from c.loop-j.invariant.2 (same (this_word _ _ _ _ c.loop-j.invariant.1 c.loop-j.invariant.0 c.length_before-n.ensures c.if-j-eq0.true) (laid _ _ _ (c.put_text.ensures.bytes, c.put_text.ensures.place))))).0; place = (parts (from c.loop-j.invariant.2 (same (this_word _ _ _ _ c.loop-j.invariant.1 c.loop-j.invariant.0 c.length_before-n.ensures c.if-j-eq0.true) (laid _ _ _ (c.put_text.ensures.bytes, c.put_text.ensures.place))))).1 }
 
 pub shape_of-out-then-choice-e : goal.shape_of-out-then-choice-e
 shape_of-out-then-choice-e c = ap length c.loop-j.invariant.2
 
 pub returns-then-choice-e : goal.returns-then-choice-e
-returns-then-choice-e c = parts (same (no_word _ _ _ _ c.loop-j.invariant.1 c.loop-j.invariant.0 c.length_before-n.ensures c.if-j-eq0.false c.if-choice-e.true) (nothing_put _ _ _ c.loop-j.invariant.2))
+returns-then-choice-e c = record { bytes = (parts (same (no_word _ _ _ _ c.loop-j.invariant.1 c.loop-j.invariant.0 c.length_before-n.ensures c.if-j-eq0.false c.if-choice-e.true) (nothing_put _ _ _ c.loop-j.invariant.2))).0; place = (parts (same (no_word _ _ _ _ c.loop-j.invariant.1 c.loop-j.invariant.0 c.length_before-n.ensures c.if-j-eq0.false c.if-choice-e.true) (nothing_put _ _ _ c.loop-j.invariant.2))).1 }
 
 pub loop-j-smaller : goal.loop-j-smaller
 loop-j-smaller c = omega (arith, word_fits c.args.choice.now c.loop-j.w c.loop-j.invariant.0 c.length_before-n.ensures)

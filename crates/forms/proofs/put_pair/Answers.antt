@@ -5,7 +5,7 @@ use borrow.Author.Rules.{rules}
 use Rattle.forms.proofs.put_pair.Goals as goal
 
 pub returns-then-given-eq0 : goal.returns-then-given-eq0
-returns-then-given-eq0 c = parts (same (rw (eq-eqb _ _ c.if-given-eq0.true)) (laid _ _ _ c.put_text.ensures))
+returns-then-given-eq0 c = record { bytes = (parts (same (rw (eq-eqb _ _ c.if-given-eq0.true)) (laid _ _ _ (c.put_text.ensures.bytes, c.put_text.ensures.place)))).0; place = (parts (same (rw (eq-eqb _ _ c.if-given-eq0.true)) (laid _ _ _ (c.put_text.ensures.bytes, c.put_text.ensures.place)))).1 }
 
 pub returns : goal.returns
-returns c = parts (same (rw (ne_eqb _ _ c.if-given-eq0.false)) (then (laid _ _ _ c.put_decimal-p.ensures) (then (laid _ _ _ c.put_byte-p.ensures) (laid _ _ _ c.put_decimal.ensures))))
+returns c = record { bytes = (parts (same (rw (ne_eqb _ _ c.if-given-eq0.false)) (then (laid _ _ _ (c.put_decimal-p.ensures.bytes, c.put_decimal-p.ensures.place)) (then (laid _ _ _ (c.put_byte-p.ensures.bytes, c.put_byte-p.ensures.place)) (laid _ _ _ (c.put_decimal.ensures.bytes, c.put_decimal.ensures.place)))))).0; place = (parts (same (rw (ne_eqb _ _ c.if-given-eq0.false)) (then (laid _ _ _ (c.put_decimal-p.ensures.bytes, c.put_decimal-p.ensures.place)) (then (laid _ _ _ (c.put_byte-p.ensures.bytes, c.put_byte-p.ensures.place)) (laid _ _ _ (c.put_decimal.ensures.bytes, c.put_decimal.ensures.place)))))).1 }

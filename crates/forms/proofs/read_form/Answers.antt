@@ -14,13 +14,13 @@ pub shape_of-got-then-line-i : goal.shape_of-got-then-line-i
 shape_of-got-then-line-i c = c.loop-f.invariant.3
 
 pub returns-then-line-i : goal.returns-then-line-i
-returns-then-line-i c = unread _ _ _ _ (cut_off c.loop-f.invariant.2 c.loop-f-test.true (literal _ c.is_literal.ensures c.kind_of-kind.ensures c.if-is_literal.true) c.if-line-i.true) c.loop-f.invariant.2.stored
+returns-then-line-i c = record { good = (unread _ _ _ _ (cut_off c.loop-f.invariant.2 c.loop-f-test.true (literal _ c.is_literal.ensures c.kind_of-kind.ensures c.if-is_literal.true) c.if-line-i.true) c.loop-f.invariant.2.stored).0; words = (unread _ _ _ _ (cut_off c.loop-f.invariant.2 c.loop-f-test.true (literal _ c.is_literal.ensures c.kind_of-kind.ensures c.if-is_literal.true) c.if-line-i.true) c.loop-f.invariant.2.stored).1 }
 
 pub shape_of-got-then-line-i-2 : goal.shape_of-got-then-line-i-2
 shape_of-got-then-line-i-2 c = c.loop-f.invariant.3
 
 pub returns-then-line-i-2 : goal.returns-then-line-i-2
-returns-then-line-i-2 c = unread _ _ _ _ (other_byte c.loop-f.invariant.2 c.loop-f-test.true (literal _ c.is_literal.ensures c.kind_of-kind.ensures c.if-is_literal.true) (omega arith) c.if-line-i-2.true) c.loop-f.invariant.2.stored
+returns-then-line-i-2 c = record { good = (unread _ _ _ _ (other_byte c.loop-f.invariant.2 c.loop-f-test.true (literal _ c.is_literal.ensures c.kind_of-kind.ensures c.if-is_literal.true) (omega arith) c.if-line-i-2.true) c.loop-f.invariant.2.stored).0; words = (unread _ _ _ _ (other_byte c.loop-f.invariant.2 c.loop-f-test.true (literal _ c.is_literal.ensures c.kind_of-kind.ensures c.if-is_literal.true) (omega arith) c.if-line-i-2.true) c.loop-f.invariant.2.stored).1 }
 
 pub loop-f-preserved-then-is_literal : goal.loop-f-preserved-then-is_literal
 loop-f-preserved-then-is_literal c = (omega arith, omega arith, same_byte c.loop-f.invariant.2 c.loop-f-test.true (literal _ c.is_literal.ensures c.kind_of-kind.ensures c.if-is_literal.true) (omega arith) c.if-line-i-2.false, c.loop-f.invariant.3)
@@ -53,22 +53,22 @@ pub loop-f-smaller : goal.loop-f-smaller
 loop-f-smaller c = omega (arith, next_fits c.args.form.now c.kind_of-kind.result c.loop-f.f c.loop-f-test.true c.choice_length.ensures c.behind_choice-f.ensures)
 
 pub loop-f-preserved : goal.loop-f-preserved
-loop-f-preserved c = (omega (arith, next_fits c.args.form.now c.kind_of-kind.result c.loop-f.f c.loop-f-test.true c.choice_length.ensures c.behind_choice-f.ensures), omega (arith, value_fits c.args.line.now c.loop-f.i c.loop-f.invariant.1 c.length_before.ensures), good_value c.loop-f.invariant.2 c.loop-f-test.true c.kind_of-kind.ensures (sym c.is_literal.ensures ∙ c.if-is_literal.false) c.loop-f.invariant.1 c.length_before.ensures c.choice_length.ensures c.value_words-w.ensures (sym c.is_good.ensures ∙ c.if-is_good.true) c.behind_choice-f.ensures (laid _ _ _ c.put_words-n.ensures), c.put_words-n.auto.1.0 ∙ c.loop-f.invariant.3)
+loop-f-preserved c = (omega (arith, next_fits c.args.form.now c.kind_of-kind.result c.loop-f.f c.loop-f-test.true c.choice_length.ensures c.behind_choice-f.ensures), omega (arith, value_fits c.args.line.now c.loop-f.i c.loop-f.invariant.1 c.length_before.ensures), good_value c.loop-f.invariant.2 c.loop-f-test.true c.kind_of-kind.ensures (sym c.is_literal.ensures ∙ c.if-is_literal.false) c.loop-f.invariant.1 c.length_before.ensures c.choice_length.ensures c.value_words-w.ensures (sym c.is_good.ensures ∙ c.if-is_good.true) c.behind_choice-f.ensures (laid _ _ _ (c.put_words-n.ensures.bytes, c.put_words-n.ensures.place)), c.put_words-n.auto.1.0 ∙ c.loop-f.invariant.3)
 
 pub shape_of-got-else-is_good : goal.shape_of-got-else-is_good
 shape_of-got-else-is_good c = c.put_words-n.auto.1.0 ∙ c.loop-f.invariant.3
 
 pub returns-else-is_good : goal.returns-else-is_good
-returns-else-is_good c = unread _ _ _ _ (bad_value c.loop-f.invariant.2 c.loop-f-test.true c.kind_of-kind.ensures (sym c.is_literal.ensures ∙ c.if-is_literal.false) c.loop-f.invariant.1 c.length_before.ensures c.choice_length.ensures c.value_words-w.ensures (sym c.is_good.ensures ∙ c.if-is_good.false)) (bad_stored c.loop-f.invariant.2 c.loop-f-test.true c.kind_of-kind.ensures (sym c.is_literal.ensures ∙ c.if-is_literal.false) c.loop-f.invariant.1 c.length_before.ensures c.choice_length.ensures c.value_words-w.ensures (laid _ _ _ c.put_words-n.ensures))
+returns-else-is_good c = record { good = (unread _ _ _ _ (bad_value c.loop-f.invariant.2 c.loop-f-test.true c.kind_of-kind.ensures (sym c.is_literal.ensures ∙ c.if-is_literal.false) c.loop-f.invariant.1 c.length_before.ensures c.choice_length.ensures c.value_words-w.ensures (sym c.is_good.ensures ∙ c.if-is_good.false)) (bad_stored c.loop-f.invariant.2 c.loop-f-test.true c.kind_of-kind.ensures (sym c.is_literal.ensures ∙ c.if-is_literal.false) c.loop-f.invariant.1 c.length_before.ensures c.choice_length.ensures c.value_words-w.ensures (laid _ _ _ (c.put_words-n.ensures.bytes, c.put_words-n.ensures.place)))).0; words = (unread _ _ _ _ (bad_value c.loop-f.invariant.2 c.loop-f-test.true c.kind_of-kind.ensures (sym c.is_literal.ensures ∙ c.if-is_literal.false) c.loop-f.invariant.1 c.length_before.ensures c.choice_length.ensures c.value_words-w.ensures (sym c.is_good.ensures ∙ c.if-is_good.false)) (bad_stored c.loop-f.invariant.2 c.loop-f-test.true c.kind_of-kind.ensures (sym c.is_literal.ensures ∙ c.if-is_literal.false) c.loop-f.invariant.1 c.length_before.ensures c.choice_length.ensures c.value_words-w.ensures (laid _ _ _ (c.put_words-n.ensures.bytes, c.put_words-n.ensures.place)))).1 }
 
 pub shape_of-got-then-i-line : goal.shape_of-got-then-i-line
 shape_of-got-then-i-line c = c.loop-f.invariant.3
 
 pub returns-then-i-line : goal.returns-then-i-line
-returns-then-i-line c = all_read c.loop-f.invariant.2 c.loop-f-test.false (omega arith)
+returns-then-i-line c = record { good = (all_read c.loop-f.invariant.2 c.loop-f-test.false (omega arith)).0; words = (all_read c.loop-f.invariant.2 c.loop-f-test.false (omega arith)).1 }
 
 pub shape_of-got : goal.shape_of-got
 shape_of-got c = c.loop-f.invariant.3
 
 pub returns : goal.returns
-returns c = unread _ _ _ _ (bytes_left c.loop-f.invariant.2 c.loop-f-test.false (omega arith)) c.loop-f.invariant.2.stored
+returns c = record { good = (unread _ _ _ _ (bytes_left c.loop-f.invariant.2 c.loop-f-test.false (omega arith)) c.loop-f.invariant.2.stored).0; words = (unread _ _ _ _ (bytes_left c.loop-f.invariant.2 c.loop-f-test.false (omega arith)) c.loop-f.invariant.2.stored).1 }

@@ -13,4 +13,4 @@ pub slice_bounds-put_bytes-end : goal.slice_bounds-put_bytes-end
 slice_bounds-put_bytes-end c = simp length-take (omega (arith, span_of c.args.input.now c.args.buffer.now c.args.count c.look_ahead-g.ensures))
 
 pub returns : goal.returns
-returns c = (c.look_ahead-g.ensures, c.put_bytes.ensures ∙ stored_of c.args.input.now c.args.buffer.now c.args.count c.look_ahead-g.ensures)
+returns c = record { answer = c.look_ahead-g.ensures; stored = c.put_bytes.ensures ∙ stored_of c.args.input.now c.args.buffer.now c.args.count c.look_ahead-g.ensures }

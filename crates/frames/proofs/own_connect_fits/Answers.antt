@@ -4,4 +4,4 @@ use Rattle.frames.proofs.Owns.{own_fits}
 use Rattle.frames.proofs.own_connect_fits.Goals as goal
 
 pub returns : goal.returns
-returns c = (own_fits, refl)
+returns c = record { whole = own_fits; most = refl }

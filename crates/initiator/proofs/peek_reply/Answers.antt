@@ -16,10 +16,10 @@ pub read_ahead-requires : goal.read_ahead-requires
 read_ahead-requires c = whole_inside c.args.input.now c.args.buffer.now c.args.count c.args.out.now c.look_ahead-g.ensures c.in-Whole.is
 
 pub returns-in-More : goal.returns-in-More
-returns-in-More c = reply_more c.args.input.now c.args.buffer.now c.args.count c.args.out.now c.look_ahead-g.ensures c.in-More.is
+returns-in-More c = record { answer = (reply_more c.args.input.now c.args.buffer.now c.args.count c.args.out.now c.look_ahead-g.ensures c.in-More.is).0; stored = (reply_more c.args.input.now c.args.buffer.now c.args.count c.args.out.now c.look_ahead-g.ensures c.in-More.is).1 }
 
 pub returns-in-Broken : goal.returns-in-Broken
-returns-in-Broken c = reply_broken c.args.input.now c.args.buffer.now c.args.count c.args.out.now c.look_ahead-g.ensures c.in-Broken.is
+returns-in-Broken c = record { answer = (reply_broken c.args.input.now c.args.buffer.now c.args.count c.args.out.now c.look_ahead-g.ensures c.in-Broken.is).0; stored = (reply_broken c.args.input.now c.args.buffer.now c.args.count c.args.out.now c.look_ahead-g.ensures c.in-Broken.is).1 }
 
 pub returns-in-Whole : goal.returns-in-Whole
-returns-in-Whole c = reply_whole c.args.input.now c.args.buffer.now c.args.count c.args.out.now c.look_ahead-g.ensures c.in-Whole.is c.read_ahead.ensures.answer c.read_ahead.ensures.stored
+returns-in-Whole c = record { answer = (reply_whole c.args.input.now c.args.buffer.now c.args.count c.args.out.now c.look_ahead-g.ensures c.in-Whole.is c.read_ahead.ensures.answer c.read_ahead.ensures.stored).0; stored = (reply_whole c.args.input.now c.args.buffer.now c.args.count c.args.out.now c.look_ahead-g.ensures c.in-Whole.is c.read_ahead.ensures.answer c.read_ahead.ensures.stored).1 }

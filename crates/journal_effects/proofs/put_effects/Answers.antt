@@ -9,7 +9,7 @@ use borrow.Author.Rules.{rules}
 use Rattle.journal_effects.proofs.put_effects.Goals as goal
 
 pub shape_of-out-then-is_empty : goal.shape_of-out-then-is_empty
-shape_of-out-then-is_empty c = length_kept (laid _ _ _ c.put_none.ensures)
+shape_of-out-then-is_empty c = length_kept (laid _ _ _ (c.put_none.ensures.bytes, c.put_none.ensures.place))
 
 pub returns-then-is_empty : goal.returns-then-is_empty
 unfolding effects_text
@@ -20,4 +20,4 @@ shape_of-out c = length_kept (laid _ _ _ (c.put_lines.ensures.bytes, c.put_lines
 
 pub returns : goal.returns
 unfolding effects_text
-returns c = simp (sym c.is_empty.ensures, c.if-is_empty.false) c.put_lines.ensures
+returns c = simp (sym c.is_empty.ensures, c.if-is_empty.false) (c.put_lines.ensures.bytes, c.put_lines.ensures.place, c.put_lines.ensures.short)

@@ -10,4 +10,4 @@ shape_of-out c = length_kept (laid _ _ _ (c.put_effect.ensures.bytes, c.put_effe
 
 pub returns : goal.returns
 unfolding lines_text
-returns c = joined (laid _ _ _ (c.put_effect-p.ensures.bytes, c.put_effect-p.ensures.place.0)) (laid _ _ _ (c.put_effect-p-2.ensures.bytes, c.put_effect-p-2.ensures.place.0)) (laid _ _ _ (c.put_effect-p-3.ensures.bytes, c.put_effect-p-3.ensures.place.0)) (laid _ _ _ (c.put_effect.ensures.bytes, c.put_effect.ensures.place.0)) c.put_effect-p.ensures.place.1 c.put_effect-p-2.ensures.place.1 c.put_effect-p-3.ensures.place.1 c.put_effect.ensures.place.1
+returns c = record { bytes = (joined (laid _ _ _ (c.put_effect-p.ensures.bytes, c.put_effect-p.ensures.place.0)) (laid _ _ _ (c.put_effect-p-2.ensures.bytes, c.put_effect-p-2.ensures.place.0)) (laid _ _ _ (c.put_effect-p-3.ensures.bytes, c.put_effect-p-3.ensures.place.0)) (laid _ _ _ (c.put_effect.ensures.bytes, c.put_effect.ensures.place.0)) c.put_effect-p.ensures.place.1 c.put_effect-p-2.ensures.place.1 c.put_effect-p-3.ensures.place.1 c.put_effect.ensures.place.1).0; place = (joined (laid _ _ _ (c.put_effect-p.ensures.bytes, c.put_effect-p.ensures.place.0)) (laid _ _ _ (c.put_effect-p-2.ensures.bytes, c.put_effect-p-2.ensures.place.0)) (laid _ _ _ (c.put_effect-p-3.ensures.bytes, c.put_effect-p-3.ensures.place.0)) (laid _ _ _ (c.put_effect.ensures.bytes, c.put_effect.ensures.place.0)) c.put_effect-p.ensures.place.1 c.put_effect-p-2.ensures.place.1 c.put_effect-p-3.ensures.place.1 c.put_effect.ensures.place.1).1; short = (joined (laid _ _ _ (c.put_effect-p.ensures.bytes, c.put_effect-p.ensures.place.0)) (laid _ _ _ (c.put_effect-p-2.ensures.bytes, c.put_effect-p-2.ensures.place.0)) (laid _ _ _ (c.put_effect-p-3.ensures.bytes, c.put_effect-p-3.ensures.place.0)) (laid _ _ _ (c.put_effect.ensures.bytes, c.put_effect.ensures.place.0)) c.put_effect-p.ensures.place.1 c.put_effect-p-2.ensures.place.1 c.put_effect-p-3.ensures.place.1 c.put_effect.ensures.place.1).2 }

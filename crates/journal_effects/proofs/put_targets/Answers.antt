@@ -7,16 +7,16 @@ use borrow.Author.Rules.{rules}
 use Rattle.journal_effects.proofs.put_targets.Goals as goal
 
 pub shape_of-out-then-bytes-size : goal.shape_of-out-then-bytes-size
-shape_of-out-then-bytes-size c = length_kept (laid _ _ _ c.put_burst.ensures)
+shape_of-out-then-bytes-size c = length_kept (laid _ _ _ (c.put_burst.ensures.bytes, c.put_burst.ensures.place))
 
 pub returns-then-bytes-size : goal.returns-then-bytes-size
-returns-then-bytes-size c = rw (taken_whole _ c.least-size.ensures c.if-bytes-size.true) c.put_burst.ensures
+returns-then-bytes-size c = rw (taken_whole _ c.least-size.ensures c.if-bytes-size.true) (c.put_burst.ensures.bytes, c.put_burst.ensures.place)
 
 pub slice_bounds-put_burst-end : goal.slice_bounds-put_burst-end
 slice_bounds-put_burst-end c = simp length-take (omega arith)
 
 pub shape_of-out : goal.shape_of-out
-shape_of-out c = length_kept (laid _ _ _ c.put_burst-2.ensures)
+shape_of-out c = length_kept (laid _ _ _ (c.put_burst-2.ensures.bytes, c.put_burst-2.ensures.place))
 
 pub returns : goal.returns
-returns c = (simp (sym c.least-size.ensures) c.put_burst-2.ensures.bytes, simp (sym c.least-size.ensures) c.put_burst-2.ensures.place)
+returns c = record { bytes = simp (sym c.least-size.ensures) c.put_burst-2.ensures.bytes; place = simp (sym c.least-size.ensures) c.put_burst-2.ensures.place }

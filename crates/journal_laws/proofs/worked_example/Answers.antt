@@ -2,4 +2,4 @@ use Rattle.journal_laws.proofs.Example.{nothing, example}
 use Rattle.journal_laws.proofs.worked_example.Goals as goal
 
 pub returns : goal.returns
-returns c = (nothing, example)
+returns c = record { nothing = nothing; example = example }

@@ -3,7 +3,7 @@ use borrow.Author.Rules.{rules}
 use Rattle.journal_prints.proofs.put_attribution.Goals as goal
 
 pub shape_of-out : goal.shape_of-out
-shape_of-out c = length_kept (laid _ _ _ c.put_owner.ensures)
+shape_of-out c = length_kept (laid _ _ _ (c.put_owner.ensures.bytes, c.put_owner.ensures.place))
 
 pub returns : goal.returns
-returns c = rw c.path_place-place.ensures at c.put_owner.ensures
+returns c = rw c.path_place-place.ensures at (c.put_owner.ensures.bytes, c.put_owner.ensures.place)

@@ -6,7 +6,7 @@ use borrow.Author.Rules.{rules}
 use Rattle.journal_prints.proofs.put_named.Goals as goal
 
 pub shape_of-out : goal.shape_of-out
-shape_of-out c = length_kept (laid _ _ _ c.put_byte.ensures) ∙ length_kept (laid _ _ _ c.put_form-p.ensures)
+shape_of-out c = length_kept (laid _ _ _ (c.put_byte.ensures.bytes, c.put_byte.ensures.place)) ∙ length_kept (laid _ _ _ (c.put_form-p.ensures.bytes, c.put_form-p.ensures.place))
 
 pub returns : goal.returns
-returns c = parts (then (same (named_text _ _ _ _) (laid _ _ _ c.put_form-p.ensures)) (laid _ _ _ c.put_byte.ensures))
+returns c = record { bytes = (parts (then (same (named_text _ _ _ _) (laid _ _ _ (c.put_form-p.ensures.bytes, c.put_form-p.ensures.place))) (laid _ _ _ (c.put_byte.ensures.bytes, c.put_byte.ensures.place)))).0; place = (parts (then (same (named_text _ _ _ _) (laid _ _ _ (c.put_form-p.ensures.bytes, c.put_form-p.ensures.place))) (laid _ _ _ (c.put_byte.ensures.bytes, c.put_byte.ensures.place)))).1 }

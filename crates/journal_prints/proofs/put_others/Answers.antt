@@ -17,13 +17,13 @@ pub shape_of-out-in-End : goal.shape_of-out-in-End
 shape_of-out-in-End c = c.loop-start.invariant.2
 
 pub returns-in-End : goal.returns-in-End
-returns-in-End c = parts (left_none (others_end c.args.list.now c.loop-start.i c.in-End.is c.entry_at-e.ensures) c.loop-start.invariant.1)
+returns-in-End c = record { bytes = (parts (left_none (others_end c.args.list.now c.loop-start.i c.in-End.is c.entry_at-e.ensures) c.loop-start.invariant.1)).0; place = (parts (left_none (others_end c.args.list.now c.loop-start.i c.in-End.is c.entry_at-e.ensures) c.loop-start.invariant.1)).1 }
 
 pub shape_of-out-in-Broken : goal.shape_of-out-in-Broken
 shape_of-out-in-Broken c = c.loop-start.invariant.2
 
 pub returns-in-Broken : goal.returns-in-Broken
-returns-in-Broken c = parts (left_none (others_break c.args.list.now c.loop-start.i c.in-Broken.is c.entry_at-e.ensures) c.loop-start.invariant.1)
+returns-in-Broken c = record { bytes = (parts (left_none (others_break c.args.list.now c.loop-start.i c.in-Broken.is c.entry_at-e.ensures) c.loop-start.invariant.1)).0; place = (parts (left_none (others_break c.args.list.now c.loop-start.i c.in-Broken.is c.entry_at-e.ensures) c.loop-start.invariant.1)).1 }
 
 pub slice_bounds-put_hexadecimal-count : goal.slice_bounds-put_hexadecimal-count
 slice_bounds-put_hexadecimal-count c = omega (arith, stands c.args.list.now c.loop-start.i c.in-Address.is c.entry_at-e.ensures)
@@ -38,4 +38,4 @@ pub loop-start-smaller : goal.loop-start-smaller
 loop-start-smaller c = omega (arith, stands c.args.list.now c.loop-start.i c.in-Address.is c.entry_at-e.ensures)
 
 pub loop-start-preserved : goal.loop-start-preserved
-loop-start-preserved c = let w = stands c.args.list.now c.loop-start.i c.in-Address.is c.entry_at-e.ensures in (w.inside, other_laid c.args.list.now c.loop-start.i w c.loop-start.invariant.1 (laid _ _ _ c.put_byte-p.ensures) (laid _ _ _ c.put_hexadecimal-p.ensures), length_kept (laid _ _ _ c.put_hexadecimal-p.ensures) ∙ length_kept (laid _ _ _ c.put_byte-p.ensures) ∙ c.loop-start.invariant.2)
+loop-start-preserved c = let w = stands c.args.list.now c.loop-start.i c.in-Address.is c.entry_at-e.ensures in (w.inside, other_laid c.args.list.now c.loop-start.i w c.loop-start.invariant.1 (laid _ _ _ (c.put_byte-p.ensures.bytes, c.put_byte-p.ensures.place)) (laid _ _ _ (c.put_hexadecimal-p.ensures.bytes, c.put_hexadecimal-p.ensures.place)), length_kept (laid _ _ _ (c.put_hexadecimal-p.ensures.bytes, c.put_hexadecimal-p.ensures.place)) ∙ length_kept (laid _ _ _ (c.put_byte-p.ensures.bytes, c.put_byte-p.ensures.place)) ∙ c.loop-start.invariant.2)

@@ -25,13 +25,13 @@ pub slice_bounds-put_others-end : goal.slice_bounds-put_others-end
 slice_bounds-put_others-end c = omega (arith, stands c.args.list.now 0 c.in-Address.is c.entry_at-e.ensures)
 
 pub returns-in-End : goal.returns-in-End
-returns-in-End c = parts (targets_end _ _ c.args.list.now c.in-End.is c.entry_at-e.ensures)
+returns-in-End c = record { bytes = (parts (targets_end _ _ c.args.list.now c.in-End.is c.entry_at-e.ensures)).0; place = (parts (targets_end _ _ c.args.list.now c.in-End.is c.entry_at-e.ensures)).1 }
 
 pub returns-in-Broken : goal.returns-in-Broken
-returns-in-Broken c = parts (targets_break _ _ c.args.list.now c.in-Broken.is c.entry_at-e.ensures)
+returns-in-Broken c = record { bytes = (parts (targets_break _ _ c.args.list.now c.in-Broken.is c.entry_at-e.ensures)).0; place = (parts (targets_break _ _ c.args.list.now c.in-Broken.is c.entry_at-e.ensures)).1 }
 
 pub shape_of-out : goal.shape_of-out
-shape_of-out c = length_kept (laid _ _ _ c.put_others.ensures) ∙ length_kept (laid _ _ _ c.put_hexadecimal-p.ensures)
+shape_of-out c = length_kept (laid _ _ _ (c.put_others.ensures.bytes, c.put_others.ensures.place)) ∙ length_kept (laid _ _ _ (c.put_hexadecimal-p.ensures.bytes, c.put_hexadecimal-p.ensures.place))
 
 pub returns-in-Address : goal.returns-in-Address
-returns-in-Address c = parts (targets_laid c.args.list.now (stands c.args.list.now 0 c.in-Address.is c.entry_at-e.ensures) (laid _ _ _ c.put_hexadecimal-p.ensures) (laid _ _ _ c.put_others.ensures))
+returns-in-Address c = record { bytes = (parts (targets_laid c.args.list.now (stands c.args.list.now 0 c.in-Address.is c.entry_at-e.ensures) (laid _ _ _ (c.put_hexadecimal-p.ensures.bytes, c.put_hexadecimal-p.ensures.place)) (laid _ _ _ (c.put_others.ensures.bytes, c.put_others.ensures.place)))).0; place = (parts (targets_laid c.args.list.now (stands c.args.list.now 0 c.in-Address.is c.entry_at-e.ensures) (laid _ _ _ (c.put_hexadecimal-p.ensures.bytes, c.put_hexadecimal-p.ensures.place)) (laid _ _ _ (c.put_others.ensures.bytes, c.put_others.ensures.place)))).1 }

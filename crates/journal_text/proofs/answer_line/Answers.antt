@@ -8,4 +8,4 @@ pub returns : goal.returns
 returns c =
     let a = c.args in
     line_answered (whole a.j a.connect.now a.targets.now (tables_of a.ledger.now) a.ledger.now a.sent.now) a.reply.now a.line.now
-    a.ended a.out.now a.at _ c.take_line-t.ensures c.put_said-p.ensures
+    a.ended a.out.now a.at _ (c.take_line-t.ensures.turn, c.take_line-t.ensures.reply) (c.put_said-p.ensures.bytes, c.put_said-p.ensures.place, c.put_said-p.ensures.short)

@@ -12,4 +12,4 @@ returns-in-Settings c = (simp (c.in-Settings.is, sym c.read_first-first.ensures)
 
 pub returns-in-Unknown : goal.returns-in-Unknown
 unfolding opened
-returns-in-Unknown c = (simp (c.in-Unknown.is, sym c.read_first-first.ensures), (c.new_journal-state.ensures ∙ ap (λ (x : Settings). state_of (new_journal x)) (c.settings_in-settings.ensures ∙ ap settings_in c.read_first-first.ensures), simp (c.in-Unknown.is, sym c.read_first-first.ensures) c.put_refused-p.ensures))
+returns-in-Unknown c = (simp (c.in-Unknown.is, sym c.read_first-first.ensures), (c.new_journal-state.ensures ∙ ap (λ (x : Settings). state_of (new_journal x)) (c.settings_in-settings.ensures ∙ ap settings_in c.read_first-first.ensures), simp (c.in-Unknown.is, sym c.read_first-first.ensures) (c.put_refused-p.ensures.bytes, c.put_refused-p.ensures.place)))

@@ -19,7 +19,7 @@ returns c =
     let a = c.args in
     let w = a.l.now in
     let h = c.known.ensures in
-    let e = c.abort_with.ensures in
+    let e = (c.abort_with.ensures.answer, c.abort_with.ensures.words) in
     let rs = each (left_of a.id) (pairs (rows_of Dials w) a.firsts.rows) in
     let k : length rs ≤ 64 = omega (arith, left_≤ a.id (rows_of Dials w) a.firsts.rows, used_is 0 w) in
     (ap (λ (d : Dropped). d.retired) e.0, (ap (λ (d : Dropped). d.close) e.0, (ap tables_of e.1 ∙ dials_tables w h rs k, e.1 ∙ dials_words w h rs k)))

@@ -15,7 +15,7 @@ unfolding attributed
 returns-then-insert c =
     let a = c.args in
     let e = sym c.judge-judgement.ensures ∙ c.in-At.is in
-    let i = rw c.row_of.ensures at c.insert.ensures in
+    let i = rw c.row_of.ensures at (c.insert.ensures.answer, c.insert.ensures.words) in
     let f = no_true _ (sym i.0 ∙ c.if-insert.true) in
     let d = paths_entered a.l.now c.known.ensures _ f i.1 in
     (rw (e, f) refl, (rw (e, f) d.0, rw (e, f) d.1))
@@ -25,7 +25,7 @@ unfolding attributed
 returns c =
     let a = c.args in
     let e = sym c.judge-judgement.ensures ∙ c.in-At.is in
-    let i = rw c.row_of.ensures at c.insert.ensures in
+    let i = rw c.row_of.ensures at (c.insert.ensures.answer, c.insert.ensures.words) in
     let f = no_false _ (sym i.0 ∙ c.if-insert.false) in
     let d = paths_full a.l.now c.known.ensures _ f i.1 in
     (rw (e, f) refl, (rw (e, f) d.0, rw (e, f) d.1))

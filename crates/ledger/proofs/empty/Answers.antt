@@ -5,4 +5,4 @@ use Rattle.ledger.proofs.empty.Goals as goal
 
 pub returns : goal.returns
 unfolding empty_ledger
-returns c = (ap tables_of c.empty.ensures, c.empty.ensures)
+returns c = record { tables = ap tables_of c.empty.ensures; words = c.empty.ensures }

@@ -7,4 +7,4 @@ use Rattle.ledger.proofs.end_punches.Goals as goal
 
 pub returns : goal.returns
 unfolding end_punches
-returns c = windows_such c.args.l.now c.known.ensures (keeps_row (Other c.args.peer.0)) c.remove.ensures
+returns c = record { tables = (windows_such c.args.l.now c.known.ensures (keeps_row (Other c.args.peer.0)) c.remove.ensures).0; words = (windows_such c.args.l.now c.known.ensures (keeps_row (Other c.args.peer.0)) c.remove.ensures).1 }

@@ -8,7 +8,7 @@ pub returns-then-insert : goal.returns-then-insert
 unfolding expect_punches refuses_punches
 returns-then-insert c =
     let a = c.args in
-    let i = rw (c.row_of.ensures, c.punch_end-end.ensures) at c.insert.ensures in
+    let i = rw (c.row_of.ensures, c.punch_end-end.ensures) at (c.insert.ensures.answer, c.insert.ensures.words) in
     let e = no_true _ (sym i.0 ∙ c.if-insert.true) in
     let d = windows_entered a.l.now c.known.ensures _ e i.1 in
     (rw e refl, (rw e d.0, rw e d.1))
@@ -17,7 +17,7 @@ pub returns : goal.returns
 unfolding expect_punches refuses_punches
 returns c =
     let a = c.args in
-    let i = rw (c.row_of.ensures, c.punch_end-end.ensures) at c.insert.ensures in
+    let i = rw (c.row_of.ensures, c.punch_end-end.ensures) at (c.insert.ensures.answer, c.insert.ensures.words) in
     let e = no_false _ (sym i.0 ∙ c.if-insert.false) in
     let d = windows_full a.l.now c.known.ensures _ e i.1 in
     (rw e refl, (rw e d.0, rw e d.1))

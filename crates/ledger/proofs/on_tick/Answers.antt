@@ -7,4 +7,4 @@ use Rattle.ledger.proofs.on_tick.Goals as goal
 
 pub returns : goal.returns
 unfolding ticked
-returns c = windows_such c.args.l.now c.known.ensures (keeps_row (Lasting c.args.reading)) c.retain.ensures
+returns c = record { tables = (windows_such c.args.l.now c.known.ensures (keeps_row (Lasting c.args.reading)) c.retain.ensures).0; words = (windows_such c.args.l.now c.known.ensures (keeps_row (Lasting c.args.reading)) c.retain.ensures).1 }

@@ -16,7 +16,7 @@ slice_bounds-respond-end c = simp length-take (omega (arith, within _ _ _ c.byte
 pub returns-then-c : goal.returns-then-c
 returns-then-c c =
     let t = as_turned (found_turn _ _ _ c.call_of-c.ensures c.if-c.true c.bytes_in-b.ensures) c.respond-said.ensures.tables in
-    (found_as _ _ c.call_of-c.ensures c.if-c.true, (t.0, (t.1, parts (renamed (found_text _ _ _ c.call_of-c.ensures c.if-c.true c.bytes_in-b.ensures c.respond-said.ensures.said) (laid _ _ _ c.put_said-end.ensures)))))
+    (found_as _ _ c.call_of-c.ensures c.if-c.true, (t.0, (t.1, parts (renamed (found_text _ _ _ c.call_of-c.ensures c.if-c.true c.bytes_in-b.ensures c.respond-said.ensures.said) (laid _ _ _ (c.put_said-end.ensures.bytes, c.put_said-end.ensures.place))))))
 
 pub returns : goal.returns
 returns c =

@@ -6,7 +6,7 @@ use Rattle.ledger_calls.proofs.change.Goals as goal
 
 pub returns-then-row-eq0 : goal.returns-then-row-eq0
 unfolding change_turn
-returns-then-row-eq0 c = rw (eq-eqb _ _ c.if-row-eq0.true) (c.say.ensures, c.empty.ensures)
+returns-then-row-eq0 c = rw (eq-eqb _ _ c.if-row-eq0.true) (c.say.ensures, (c.empty.ensures.tables, c.empty.ensures.words))
 
 pub returns-then-row-eq1 : goal.returns-then-row-eq1
 unfolding change_turn
@@ -22,7 +22,7 @@ returns-then-row-eq3 c = rw (ne_eqb _ _ c.if-row-eq0.false, ne_eqb _ _ c.if-row-
 
 pub returns-then-row-eq4 : goal.returns-then-row-eq4
 unfolding change_turn
-returns-then-row-eq4 c = rw (ne_eqb _ _ c.if-row-eq0.false, ne_eqb _ _ c.if-row-eq1.false, ne_eqb _ _ c.if-row-eq2.false, ne_eqb _ _ c.if-row-eq3.false, eq-eqb _ _ c.if-row-eq4.true) (c.say-then-row-eq4.ensures, c.end_punches.ensures)
+returns-then-row-eq4 c = rw (ne_eqb _ _ c.if-row-eq0.false, ne_eqb _ _ c.if-row-eq1.false, ne_eqb _ _ c.if-row-eq2.false, ne_eqb _ _ c.if-row-eq3.false, eq-eqb _ _ c.if-row-eq4.true) (c.say-then-row-eq4.ensures, (c.end_punches.ensures.tables, c.end_punches.ensures.words))
 
 pub returns-then-row-eq5 : goal.returns-then-row-eq5
 unfolding change_turn
@@ -34,4 +34,4 @@ returns-then-row-eq6 c = rw (ne_eqb _ _ c.if-row-eq0.false, ne_eqb _ _ c.if-row-
 
 pub returns : goal.returns
 unfolding change_turn
-returns c = rw (ne_eqb _ _ c.if-row-eq0.false, ne_eqb _ _ c.if-row-eq1.false, ne_eqb _ _ c.if-row-eq2.false, ne_eqb _ _ c.if-row-eq3.false, ne_eqb _ _ c.if-row-eq4.false, ne_eqb _ _ c.if-row-eq5.false, ne_eqb _ _ c.if-row-eq6.false) (c.say-2.ensures, c.on_tick.ensures)
+returns c = rw (ne_eqb _ _ c.if-row-eq0.false, ne_eqb _ _ c.if-row-eq1.false, ne_eqb _ _ c.if-row-eq2.false, ne_eqb _ _ c.if-row-eq3.false, ne_eqb _ _ c.if-row-eq4.false, ne_eqb _ _ c.if-row-eq5.false, ne_eqb _ _ c.if-row-eq6.false) (c.say-2.ensures, (c.on_tick.ensures.tables, c.on_tick.ensures.words))

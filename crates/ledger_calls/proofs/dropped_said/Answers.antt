@@ -5,4 +5,4 @@ use borrow.Author.Rules.{rules}
 use Rattle.ledger_calls.proofs.dropped_said.Goals as goal
 
 pub returns : goal.returns
-returns c = c.show.ensures ∙ dropped_shown _ _ c.no_bytes-bytes.ensures (laid _ _ _ c.put_tokens-middle.ensures) (laid _ _ _ c.put_connections-end.ensures)
+returns c = c.show.ensures ∙ dropped_shown _ _ c.no_bytes-bytes.ensures (laid _ _ _ (c.put_tokens-middle.ensures.bytes, c.put_tokens-middle.ensures.place)) (laid _ _ _ (c.put_connections-end.ensures.bytes, c.put_connections-end.ensures.place))

@@ -6,11 +6,11 @@ use Rattle.ledger_calls.proofs.respond.Goals as goal
 
 pub returns-then-row-lt8 : goal.returns-then-row-lt8
 unfolding turn_of
-returns-then-row-lt8 c = rw (lt-ltb _ _ c.if-row-lt8.true) c.change.ensures
+returns-then-row-lt8 c = rw (lt-ltb _ _ c.if-row-lt8.true) (c.change.ensures.said, c.change.ensures.tables, c.change.ensures.words)
 
 pub returns-then-row-eq8 : goal.returns-then-row-eq8
 unfolding turn_of
-returns-then-row-eq8 c = rw (le-ltb _ _ c.if-row-lt8.false, eq-eqb _ _ c.if-row-eq8.true) c.abort.ensures
+returns-then-row-eq8 c = rw (le-ltb _ _ c.if-row-lt8.false, eq-eqb _ _ c.if-row-eq8.true) (c.abort.ensures.said, c.abort.ensures.tables, c.abort.ensures.words)
 
 pub returns : goal.returns
 unfolding turn_of

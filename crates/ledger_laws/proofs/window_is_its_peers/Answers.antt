@@ -2,4 +2,4 @@ use Rattle.ledger_laws.proofs.Names.{other_window, other_closed}
 use Rattle.ledger_laws.proofs.window_is_its_peers.Goals as goal
 
 pub returns : goal.returns
-returns c = (other_closed, other_window)
+returns c = record { closed = other_closed; opened = other_window }

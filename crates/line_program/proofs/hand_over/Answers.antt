@@ -5,10 +5,10 @@ use borrow.Author.Rules.{rules}
 use Rattle.line_program.proofs.hand_over.Goals as goal
 
 pub returns-then-waiting-eq0 : goal.returns-then-waiting-eq0
-returns-then-waiting-eq0 c = (kept_none _ _ _ _ c.if-waiting-eq0.true, λ _ _. refl)
+returns-then-waiting-eq0 c = record { bytes = kept_none _ _ _ _ c.if-waiting-eq0.true; written = λ _ _. refl }
 
 pub returns-then-may_stay : goal.returns-then-may_stay
-returns-then-may_stay c = (kept_all c.args.room (has_line (left c.args.block.now c.args.from c.args.until)) c.args.out.now c.args.waiting c.may_stay.ensures c.if-may_stay.true, λ _ _. refl)
+returns-then-may_stay c = record { bytes = kept_all c.args.room (has_line (left c.args.block.now c.args.from c.args.until)) c.args.out.now c.args.waiting c.may_stay.ensures c.if-may_stay.true; written = λ _ _. refl }
 
 pub returns : goal.returns
-returns c = (over_all c.args.room (has_line (left c.args.block.now c.args.from c.args.until)) c.args.out.now c.args.waiting c.may_stay.ensures c.if-may_stay.false, over_some c.args.room (has_line (left c.args.block.now c.args.from c.args.until)) c.args.out.now c.args.waiting c.may_stay.ensures c.if-may_stay.false c.if-waiting-eq0.false)
+returns c = record { bytes = over_all c.args.room (has_line (left c.args.block.now c.args.from c.args.until)) c.args.out.now c.args.waiting c.may_stay.ensures c.if-may_stay.false; written = over_some c.args.room (has_line (left c.args.block.now c.args.from c.args.until)) c.args.out.now c.args.waiting c.may_stay.ensures c.if-may_stay.false c.if-waiting-eq0.false }

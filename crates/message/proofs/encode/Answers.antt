@@ -15,8 +15,7 @@ unfolding encode_of encode_into
 returns-then-out-size c =
     let a = c.args in
     let m = message_bytes a.kind (entries a.list.now) in
-    let z = size_is a.list.now m c.message_size.ensures c.in-Message.is in
-    write_short a.list.now m m a.out.now c.message_size.ensures c.in-Message.is (omega arith)
+    let z = size_is a.list.now m c.message_size.ensures c.in-Message.is in record { answer = (write_short a.list.now m m a.out.now c.message_size.ensures c.in-Message.is (omega arith)).0; stored = (write_short a.list.now m m a.out.now c.message_size.ensures c.in-Message.is (omega arith)).1 }
 
 pub put_message-requires : goal.put_message-requires
 unfolding encode_of
@@ -31,8 +30,7 @@ pub returns-in-Refused : goal.returns-in-Refused
 unfolding encode_of encode_into
 returns-in-Refused c =
     let a = c.args in
-    let m = message_bytes a.kind (entries a.list.now) in
-    write_refused a.list.now m m a.out.now c.message_size.ensures c.in-Refused.is
+    let m = message_bytes a.kind (entries a.list.now) in record { answer = (write_refused a.list.now m m a.out.now c.message_size.ensures c.in-Refused.is).0; stored = (write_refused a.list.now m m a.out.now c.message_size.ensures c.in-Refused.is).1 }
 
 pub returns-else-out-size : goal.returns-else-out-size
 unfolding encode_of encode_into

@@ -29,8 +29,7 @@ returns-then-out-head c =
     let m = message_bytes a.kind xs in
     let b = frame_bytes a.kind xs in
     let z = size_is a.list.now m c.message_size.ensures c.in-Message.is in
-    let f = frame_adds m z.1 c.varint_len-head.ensures in
-    write_short a.list.now m b a.out.now c.message_size.ensures c.in-Message.is (omega arith)
+    let f = frame_adds m z.1 c.varint_len-head.ensures in record { answer = (write_short a.list.now m b a.out.now c.message_size.ensures c.in-Message.is (omega arith)).0; stored = (write_short a.list.now m b a.out.now c.message_size.ensures c.in-Message.is (omega arith)).1 }
 
 pub put_message-requires : goal.put_message-requires
 unfolding encode_of
@@ -47,8 +46,7 @@ pub returns-in-Refused : goal.returns-in-Refused
 unfolding encode_of frame_encode_of frame_encode_into
 returns-in-Refused c =
     let a = c.args in
-    let xs = entries a.list.now in
-    write_refused a.list.now (message_bytes a.kind xs) (frame_bytes a.kind xs) a.out.now c.message_size.ensures c.in-Refused.is
+    let xs = entries a.list.now in record { answer = (write_refused a.list.now (message_bytes a.kind xs) (frame_bytes a.kind xs) a.out.now c.message_size.ensures c.in-Refused.is).0; stored = (write_refused a.list.now (message_bytes a.kind xs) (frame_bytes a.kind xs) a.out.now c.message_size.ensures c.in-Refused.is).1 }
 
 pub returns-else-out-head : goal.returns-else-out-head
 unfolding encode_of frame_encode_of frame_encode_into

@@ -76,7 +76,7 @@ loop-at-preserved-in-Address c =
       omega arith,
       omega arith,
       left_entry c.args.s.now l.at c.first_field.ensures l.invariant.0 l.invariant.1 l.invariant.2 c.loop-at-test.true l.out l.p _ l.invariant.5 c.in-Address.is c.put_entry.ensures,
-      c.put_entry.auto.1.0 ∙ l.invariant.6,
+      c.put_entry.auto.out ∙ l.invariant.6,
     )
 
 pub overflow_add-at-in-Other : goal.overflow_add-at-in-Other

@@ -20,7 +20,7 @@ pub overflow_add-p-2 : goal.overflow_add-p-2
 overflow_add-p-2 c = omega (arith, groups_most 9 (length c.args.address.now))
 
 pub shape_of-out : goal.shape_of-out
-shape_of-out c = c.put_bytes.auto.1.0 ∙ c.put_varint.auto.1.0 ∙ simp length-set
+shape_of-out c = c.put_bytes.auto.out ∙ c.put_varint.auto.out ∙ simp length-set
 
 pub returns : goal.returns
 returns c = field_stored c.args.out.now c.args.address.now c.args.at (ap (λ (n : ℕ). c.args.at + 1 + n) c.varint_len.ensures) c.put_varint.ensures c.put_bytes.ensures

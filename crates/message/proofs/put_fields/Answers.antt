@@ -59,4 +59,4 @@ loop-start-smaller c = omega (arith, stands c.args.list.now c.loop-start.at c.in
 pub loop-start-preserved : goal.loop-start-preserved
 loop-start-preserved c =
     let w = stands c.args.list.now c.loop-start.at c.in-Address.is c.entry_at-e.ensures in
-    (store_more _ _ _ _ _ _ c.loop-start.invariant.0 w c.varint_len.ensures c.put_field.ensures, c.put_field.auto.1.0 ∙ c.loop-start.invariant.1)
+    (store_more _ _ _ _ _ _ c.loop-start.invariant.0 w c.varint_len.ensures c.put_field.ensures, c.put_field.auto.out ∙ c.loop-start.invariant.1)

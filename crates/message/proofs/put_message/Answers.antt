@@ -15,7 +15,7 @@ put_fields-requires c =
     omega arith
 
 pub shape_of-out : goal.shape_of-out
-shape_of-out c = c.put_fields.auto.1.0 ∙ c.put_varint.auto.1.0 ∙ simp length-set
+shape_of-out c = c.put_fields.auto.out ∙ c.put_varint.auto.out ∙ simp length-set
 
 pub returns : goal.returns
 returns c = parts_stored c.args.out.now c.args.at (type_field c.args.number) (address_fields (entries c.args.list.now)) (omega arith) (type_stored c.args.out.now c.args.at c.args.number c.put_varint.ensures) c.put_fields.ensures

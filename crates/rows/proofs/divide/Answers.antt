@@ -89,4 +89,4 @@ pub returns : goal.returns
 returns c =
     let x = c.loop-i in
     let s : x.i ≡ c.args.n = omega arith in
-    ((rw s at x.invariant.2, omega arith), rw s at x.invariant.3.is)
+    record { count = (rw s at x.invariant.2, omega arith); words = rw s at x.invariant.3.is }

@@ -25,7 +25,7 @@ returns-then-is_crowded_from c =
     let w = a.l.now in
     let h : a.b + 321 ≤ length w = omega (arith, c.known.ensures) in
     let e : crowded a.row.key (rows_from a.b w) ≡ true = sym c.is_crowded_from.ensures ∙ c.if-is_crowded_from.true in
-    (rw e refl, rw e (sym (laid_own a.b w h)))
+    record { answer = rw e refl; words = rw e (sym (laid_own a.b w h)) }
 
 pub divide-m-requires : goal.divide-m-requires
 divide-m-requires c =
@@ -77,4 +77,4 @@ returns c =
     let o : Holds a.b w _ (filled (without a.row.key rs) ps) = record { is = c.pack-n.ensures.words ∙ ap (λ (xs : List Row). tabled a.b (at w a.b) (filled xs ps) w) q; full = length_filled (without a.row.key rs) ps g ∙ length_places a.b w } in
     let p = between_them a.b w h a.row c.pack-n.result c.divide-m.result n f o c.divide-m.ensures.count.0 c.divide-m.ensures.words c.write.ensures c.bring.ensures in
     let m : c.pack-n.result + 1 ≡ length (inserted a.row rs) = omega (arith, length_inserted a.row rs) in
-    (rw e refl, rw e (settled a.b w h (inserted a.row rs) (inserted_fits a.row rs e) p c.count-used.result (c.pack-n.result + 1) c.count-used.ensures.0 m c.settle.ensures))
+    record { answer = rw e refl; words = rw e (settled a.b w h (inserted a.row rs) (inserted_fits a.row rs e) p c.count-used.result (c.pack-n.result + 1) c.count-used.ensures.0 m c.settle.ensures) }

@@ -85,4 +85,4 @@ returns c =
     let x = c.loop-i in
     let rs = rows_from a.b w in
     let q = marked_all a.t3.keep rs x.i (omega arith) in
-    ((rw q at x.invariant.2, omega (arith, c.count-n.ensures)), rw q at x.invariant.3.is)
+    record { count = (rw q at x.invariant.2, omega (arith, c.count-n.ensures)); words = rw q at x.invariant.3.is }

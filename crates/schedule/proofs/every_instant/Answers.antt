@@ -2,4 +2,4 @@ use Rattle.schedule.proofs.Instants.{instant_in, instant_at}
 use Rattle.schedule.proofs.every_instant.Goals as goal
 
 pub returns : goal.returns
-returns c = (instant_in, instant_at)
+returns c = record { listed = instant_in; no_other = instant_at }

@@ -3,7 +3,7 @@ use borrow.Author.Rules.{rules}
 use Rattle.text.proofs.put_byte.Goals as goal
 
 pub returns-then-at-out : goal.returns-then-at-out
-returns-then-at-out c = parts (byte_in _ _ _ c.if-at-out.true)
+returns-then-at-out c = record { bytes = (parts (byte_in _ _ _ c.if-at-out.true)).0; place = (parts (byte_in _ _ _ c.if-at-out.true)).1 }
 
 pub returns : goal.returns
-returns c = parts (byte_out _ _ _ c.if-at-out.false)
+returns c = record { bytes = (parts (byte_out _ _ _ c.if-at-out.false)).0; place = (parts (byte_out _ _ _ c.if-at-out.false)).1 }

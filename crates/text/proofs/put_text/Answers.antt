@@ -5,4 +5,4 @@ use borrow.Author.Rules.{rules}
 use Rattle.text.proofs.put_text.Goals as goal
 
 pub returns-then-n-out : goal.returns-then-n-out
-returns-then-n-out c = parts (laid_part _ _ _ _ refl (omega arith) c.copy.ensures)
+returns-then-n-out c = record { bytes = (parts (laid_part _ _ _ _ refl (omega arith) c.copy.ensures)).0; place = (parts (laid_part _ _ _ _ refl (omega arith) c.copy.ensures)).1 }

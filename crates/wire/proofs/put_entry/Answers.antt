@@ -14,7 +14,7 @@ pub returns-then-out-at-2 : goal.returns-then-out-at-2
 returns-then-out-at-2 c = half_length c.args.out.now c.args.address.now c.args.at (omega (arith, length-set c.args.out.now c.args.at (length c.args.address.now / 256 % 256)))
 
 pub shape_of-out : goal.shape_of-out
-shape_of-out c = c.put_bytes.auto.1.0 ∙ simp length-set
+shape_of-out c = c.put_bytes.auto.out ∙ simp length-set
 
 pub returns : goal.returns
 returns c = c.put_bytes.ensures ∙ entry_stored c.args.out.now c.args.address.now c.args.at

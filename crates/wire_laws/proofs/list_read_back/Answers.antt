@@ -3,4 +3,4 @@ use Rattle.wire.proofs.Listed.{all_of, read_back, unbroken, written_back}
 use Rattle.wire_laws.proofs.list_read_back.Goals as goal
 
 pub returns : goal.returns
-returns c = (λ xs h. (read_back xs (all_of xs h), unbroken xs (all_of xs h)), written_back)
+returns c = record { written = λ xs h. (read_back xs (all_of xs h), unbroken xs (all_of xs h)); read = written_back }

@@ -29,7 +29,7 @@ pub loop-i-preserved : goal.loop-i-preserved
 loop-i-preserved c =
     let h : length c.args.t1.tokens ≡ 64 = simp length-map at c.well-formed.0.1.1.0.1.0.1 in
     let b : c.loop-i.i < length c.args.t1.tokens = omega (arith, c.least-n.ensures) in
-    let e = laid _ _ _ c.put_number-p.ensures in
+    let e = laid _ _ _ (c.put_number-p.ensures.bytes, c.put_number-p.ensures.place) in
     (omega (arith, c.least-n.ensures), number_next (token_at c.args.t1) _ c.loop-i.invariant.1 (number_at (λ (v : NatToken). v.0) c.args.t1.tokens c.loop-i.i _ (record { 0 = 0 }) b e), length_kept e ∙ c.loop-i.invariant.2)
 
 pub shape_of-out : goal.shape_of-out
@@ -37,4 +37,4 @@ shape_of-out c = c.loop-i.invariant.2
 
 pub returns : goal.returns
 unfolding tokens_bytes
-returns c = parts (numbers_all (token_at c.args.t1) (omega (arith, c.least-n.ensures)) c.loop-i.invariant.1)
+returns c = record { bytes = (parts (numbers_all (token_at c.args.t1) (omega (arith, c.least-n.ensures)) c.loop-i.invariant.1)).0; place = (parts (numbers_all (token_at c.args.t1) (omega (arith, c.least-n.ensures)) c.loop-i.invariant.1)).1 }

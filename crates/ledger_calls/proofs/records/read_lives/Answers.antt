@@ -35,4 +35,4 @@ pub loop-k-preserved : goal.loop-k-preserved
 loop-k-preserved c = (omega arith, simp length-set c.loop-k.invariant.1, live_next c.args.s.now _ _ c.loop-k.invariant.2 (omega (arith, c.least-n.ensures, c.loop-k.invariant.1)) c.live_at-live.ensures)
 
 pub returns : goal.returns
-returns c = (omega (arith, c.least-n.ensures), lives_all c.args.s.now _ _ c.loop-k.invariant.2 c.least-n.ensures (omega arith))
+returns c = record { few = omega (arith, c.least-n.ensures); rows = lives_all c.args.s.now _ _ c.loop-k.invariant.2 c.least-n.ensures (omega arith) }

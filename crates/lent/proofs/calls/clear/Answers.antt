@@ -4,7 +4,5 @@ use borrow.Author.Rules.{rules}
 use Rattle.lent.proofs.calls.clear.Goals as goal
 
 pub returns : goal.returns
-returns c = (
-  c.copy_frame.ensures ∙ c.blank-frame.ensures,
-  c.copy_targets.ensures ∙ ap (λ (z : Chosen). z.bytes) c.empty-none.ensures,
-)
+returns c =
+    record { connect = c.copy_frame.ensures ∙ c.blank-frame.ensures; targets = c.copy_targets.ensures ∙ ap (λ (z : Chosen). z.bytes) c.empty-none.ensures }

@@ -4,4 +4,4 @@ use Rattle.library_calls.proofs.schedules.answer.Goals as goal
 
 pub returns : goal.returns
 unfolding schedules_table
-returns c = c.answer_by.ensures
+returns c = record { found = c.answer_by.ensures.found; schedule = c.answer_by.ensures.schedule; bytes = c.answer_by.ensures.bytes; place = c.answer_by.ensures.place }

@@ -6,7 +6,7 @@ use Rattle.library_calls.proofs.Scheduling.{found_turn, found_text, none_turn, n
 use Rattle.library_calls.proofs.schedules.answer_by.Goals as goal
 
 pub returns-then-c : goal.returns-then-c
-returns-then-c c = (found_as _ _ c.call_of-c.ensures c.if-c.true, (found_turn _ _ _ c.call_of-c.ensures c.if-c.true c.respond-t.ensures, parts (renamed (found_text _ _ _ c.call_of-c.ensures c.if-c.true c.respond-t.ensures) (laid _ _ _ c.put_said-end.ensures))))
+returns-then-c c = (found_as _ _ c.call_of-c.ensures c.if-c.true, (found_turn _ _ _ c.call_of-c.ensures c.if-c.true c.respond-t.ensures, parts (renamed (found_text _ _ _ c.call_of-c.ensures c.if-c.true c.respond-t.ensures) (laid _ _ _ (c.put_said-end.ensures.bytes, c.put_said-end.ensures.place)))))
 
 pub returns : goal.returns
 returns c = (found_as _ _ c.call_of-c.ensures c.if-c.false, (none_turn _ _ _ c.call_of-c.ensures c.if-c.false, parts (renamed (none_text _ _ _ c.call_of-c.ensures c.if-c.false) (laid_none _ 0))))
