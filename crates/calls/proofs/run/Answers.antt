@@ -25,7 +25,7 @@ loop-turns-preserved c = (
   c.take_step-s-in-loop-turns.auto.1.0 ∙ c.loop-turns.invariant.1,
   c.take_step-s-in-loop-turns.auto.1.1.1.0 ∙ c.loop-turns.invariant.2,
   omega (arith, c.take_step-s-in-loop-turns.auto.1.0, c.loop-turns.invariant.3),
-  λ kept words g. stepped (standing (c.loop-turns.invariant.4 kept words g)) _ c.loop-turns.invariant.3 c.take_step-s-in-loop-turns.ensures.words.1.1.1 c.take_step-s-in-loop-turns.ensures.kept c.take_step-s-in-loop-turns.ensures.words.0,
+  λ kept words g. stepped (standing (c.loop-turns.invariant.4 kept words g)) _ c.loop-turns.invariant.3 c.take_step-s-in-loop-turns.ensures.read c.take_step-s-in-loop-turns.ensures.kept c.take_step-s-in-loop-turns.ensures.words,
 )
 
 pub shape_of-block-else-s-2 : goal.shape_of-block-else-s-2
@@ -38,7 +38,7 @@ pub shape_of-out-else-s-2 : goal.shape_of-out-else-s-2
 shape_of-out-else-s-2 c = c.loop-turns.invariant.2 ∙ c.take_step-s.auto.1.1.1.0
 
 pub returns-else-s-2 : goal.returns-else-s-2
-returns-else-s-2 c = c.loop-turns.invariant.4 _ _ (stepped (begun _ _ c.args.block.now) _ c.requires c.take_step-s.ensures.words.1.1.1 c.take_step-s.ensures.kept c.take_step-s.ensures.words.0)
+returns-else-s-2 c = c.loop-turns.invariant.4 _ _ (stepped (begun _ _ c.args.block.now) _ c.requires c.take_step-s.ensures.read c.take_step-s.ensures.kept c.take_step-s.ensures.words)
 
 pub shape_of-block-else-s : goal.shape_of-block-else-s
 shape_of-block-else-s c = c.loop-turns.invariant.0 ∙ c.take_step-s.auto.0
@@ -50,7 +50,7 @@ pub shape_of-out-else-s : goal.shape_of-out-else-s
 shape_of-out-else-s c = c.loop-turns.invariant.2 ∙ c.take_step-s.auto.1.1.1.0
 
 pub returns-else-s : goal.returns-else-s
-returns-else-s c = c.loop-turns.invariant.4 _ _ (stepped (begun _ _ c.args.block.now) _ c.requires c.take_step-s.ensures.words.1.1.1 c.take_step-s.ensures.kept c.take_step-s.ensures.words.0)
+returns-else-s c = c.loop-turns.invariant.4 _ _ (stepped (begun _ _ c.args.block.now) _ c.requires c.take_step-s.ensures.read c.take_step-s.ensures.kept c.take_step-s.ensures.words)
 
 pub shape_of-block-after-loop-turns : goal.shape_of-block-after-loop-turns
 shape_of-block-after-loop-turns c = c.loop-turns.invariant.0 ∙ c.take_step-s.auto.0
@@ -62,4 +62,4 @@ pub shape_of-out-after-loop-turns : goal.shape_of-out-after-loop-turns
 shape_of-out-after-loop-turns c = c.loop-turns.invariant.2 ∙ c.take_step-s.auto.1.1.1.0
 
 pub returns-after-loop-turns : goal.returns-after-loop-turns
-returns-after-loop-turns c = c.loop-turns.invariant.4 _ _ (stepped (begun _ _ c.args.block.now) _ c.requires c.take_step-s.ensures.words.1.1.1 c.take_step-s.ensures.kept c.take_step-s.ensures.words.0)
+returns-after-loop-turns c = c.loop-turns.invariant.4 _ _ (stepped (begun _ _ c.args.block.now) _ c.requires c.take_step-s.ensures.read c.take_step-s.ensures.kept c.take_step-s.ensures.words)

@@ -17,7 +17,7 @@ use borrow.Author.Rules.{rules}
 use Rattle.journal.proofs.run.Goals as goal
 
 pub loop-turns-init : goal.loop-turns-init
-loop-turns-init c = (refl, refl, refl, refl, omega (arith, c.take_step-s.auto.1.0, c.requires), step_room _ _ _ _ _ _ _ c.take_step-s.ensures.reply.1.1.0 (sym c.take_step-s.auto.1.1.1.1.1.1.1.0) (omega (arith, c.take_step-s.auto.1.1.1.1.1.1.1.0, c.requires)), λ before had g. g)
+loop-turns-init c = (refl, refl, refl, refl, omega (arith, c.take_step-s.auto.1.0, c.requires), step_room _ _ _ _ _ _ _ c.take_step-s.ensures.waiting (sym c.take_step-s.auto.1.1.1.1.1.1.1.0) (omega (arith, c.take_step-s.auto.1.1.1.1.1.1.1.0, c.requires)), λ before had g. g)
 
 pub overflow_sub-turns : goal.overflow_sub-turns
 overflow_sub-turns c = omega (arith, c.loop-turns-test.true)
@@ -26,7 +26,7 @@ pub loop-turns-smaller : goal.loop-turns-smaller
 loop-turns-smaller c = omega (arith, c.loop-turns-test.true)
 
 pub loop-turns-preserved : goal.loop-turns-preserved
-loop-turns-preserved c = (c.take_step-s-in-loop-turns.auto.0 ∙ c.loop-turns.invariant.0, c.take_step-s-in-loop-turns.auto.1.0 ∙ c.loop-turns.invariant.1, c.take_step-s-in-loop-turns.auto.1.1.1.1.1.1.0 ∙ c.loop-turns.invariant.2, c.take_step-s-in-loop-turns.auto.1.1.1.1.1.1.1.0 ∙ c.loop-turns.invariant.3, omega (arith, c.take_step-s-in-loop-turns.auto.1.0, c.loop-turns.invariant.4), step_room _ _ _ _ _ _ _ c.take_step-s-in-loop-turns.ensures.reply.1.1.0 (sym c.take_step-s-in-loop-turns.auto.1.1.1.1.1.1.1.0) (omega (arith, c.take_step-s-in-loop-turns.auto.1.1.1.1.1.1.1.0, c.loop-turns.invariant.5)), λ before had g. going ((c.loop-turns.invariant.6 before had g).goes c.if-s.true) c.loop-turns.invariant.4 c.loop-turns.invariant.5 _ (c.take_step-s-in-loop-turns.ensures.journal, c.take_step-s-in-loop-turns.ensures.reply, c.take_step-s-in-loop-turns.ensures.out, c.take_step-s-in-loop-turns.ensures.waiting, c.take_step-s-in-loop-turns.ensures.whole, c.take_step-s-in-loop-turns.ensures.written, c.take_step-s-in-loop-turns.ensures.read) _ (omega (arith, c.loop-turns-test.true)))
+loop-turns-preserved c = (c.take_step-s-in-loop-turns.auto.0 ∙ c.loop-turns.invariant.0, c.take_step-s-in-loop-turns.auto.1.0 ∙ c.loop-turns.invariant.1, c.take_step-s-in-loop-turns.auto.1.1.1.1.1.1.0 ∙ c.loop-turns.invariant.2, c.take_step-s-in-loop-turns.auto.1.1.1.1.1.1.1.0 ∙ c.loop-turns.invariant.3, omega (arith, c.take_step-s-in-loop-turns.auto.1.0, c.loop-turns.invariant.4), step_room _ _ _ _ _ _ _ c.take_step-s-in-loop-turns.ensures.waiting (sym c.take_step-s-in-loop-turns.auto.1.1.1.1.1.1.1.0) (omega (arith, c.take_step-s-in-loop-turns.auto.1.1.1.1.1.1.1.0, c.loop-turns.invariant.5)), λ before had g. going ((c.loop-turns.invariant.6 before had g).goes c.if-s.true) c.loop-turns.invariant.4 c.loop-turns.invariant.5 _ (c.take_step-s-in-loop-turns.ensures.journal, c.take_step-s-in-loop-turns.ensures.reply, c.take_step-s-in-loop-turns.ensures.out, c.take_step-s-in-loop-turns.ensures.waiting, c.take_step-s-in-loop-turns.ensures.whole, c.take_step-s-in-loop-turns.ensures.written, c.take_step-s-in-loop-turns.ensures.read) _ (omega (arith, c.loop-turns-test.true)))
 
 pub shape_of-block : goal.shape_of-block
 shape_of-block c = c.loop-turns.invariant.0 ∙ c.take_step-s.auto.0

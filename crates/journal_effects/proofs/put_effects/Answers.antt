@@ -21,7 +21,7 @@ returns-then-is_empty c =
     }
 
 pub shape_of-out : goal.shape_of-out
-shape_of-out c = length_kept (laid _ _ _ (c.put_lines.ensures.bytes, c.put_lines.ensures.place.0))
+shape_of-out c = length_kept (laid _ _ _ (c.put_lines.ensures.bytes, c.put_lines.ensures.place))
 
 pub returns : goal.returns
 unfolding effects_text

@@ -9,7 +9,7 @@ pub returns : goal.returns
 unfolding tick_answer answer_of
 returns c =
     record {
-      answer = made_answer c.args.self.connect c.made.ensures c.on_tick-d.ensures.answer c.on_tick-d.ensures.connect.0 refl c.on_tick-d.ensures.connect.1.0 c.blank-sent.ensures;
-      tables = c.on_tick-d.ensures.connect.1.1.0;
-      words = c.on_tick-d.ensures.connect.1.1.1;
+      answer = made_answer c.args.self.connect c.made.ensures c.on_tick-d.ensures.answer c.on_tick-d.ensures.connect refl c.on_tick-d.ensures.sent c.blank-sent.ensures;
+      tables = c.on_tick-d.ensures.tables;
+      words = c.on_tick-d.ensures.words;
     }
