@@ -1,14 +1,9 @@
-use mathlib.Core.Path.{◌≡◌, refl, ap, ◌∙◌}
-use mathlib.Core.List.{[]}
-use Prim.Native.Nat.{◌≤◌, ◌-◌}
+use mathlib.Core.Path.{refl, ap, ◌∙◌}
 use native.Mathlib.Omega.{arith}
-use lib.ListN.{length, drop, get_or}
+use lib.ListN.{length}
 use Rattle.text.proofs.Printing.{parts, laid}
-use Rattle.forms.specs.Forms.{split}
-use Rattle.forms.specs.Texts.{word_at}
 use Rattle.forms.proofs.Choices.{word_fits}
 use Rattle.forms.proofs.Print.{same, from, nothing_put, this_word, no_word, next_word}
-use borrow.Author.Rules.{rules}
 use Rattle.forms.proofs.put_choice.Goals as goal
 
 pub loop-j-init : goal.loop-j-init

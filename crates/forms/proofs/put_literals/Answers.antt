@@ -1,12 +1,8 @@
-use mathlib.Core.Path.{◌≡◌, refl, ◌∙◌}
-use Prim.Native.Nat.{◌≤◌, ◌-◌, ◌+◌}
+use mathlib.Core.Path.{refl, ◌∙◌}
 use native.Mathlib.Omega.{arith}
-use lib.ListN.{length, take, drop}
-use Rattle.text.proofs.Printing.{Laid, laid, laid_none, text_more}
-use Rattle.forms.specs.Forms.{literals}
+use Rattle.text.proofs.Printing.{laid, laid_none, text_more}
 use Rattle.forms.proofs.Walk.{literal}
 use Rattle.forms.proofs.Print.{none_past, past_literal, at_mark, at_end, up_to}
-use borrow.Author.Rules.{rules}
 use Rattle.forms.proofs.put_literals.Goals as goal
 
 pub loop-i-init : goal.loop-i-init
