@@ -30,7 +30,7 @@ loop-turns-preserved c = (
   c.take_step-s-in-loop-turns.auto.1.1.1.1.1.1.0 ∙ c.loop-turns.invariant.2,
   c.take_step-s-in-loop-turns.auto.1.1.1.1.1.1.1.0 ∙ c.loop-turns.invariant.3,
   omega (arith, c.take_step-s-in-loop-turns.auto.1.0, c.loop-turns.invariant.4),
-  λ before had g. going ((c.loop-turns.invariant.5 before had g).goes c.if-s.true) c.loop-turns.invariant.4 _ (c.take_step-s-in-loop-turns.ensures.made, c.take_step-s-in-loop-turns.ensures.written, c.take_step-s-in-loop-turns.ensures.read) _ (omega (arith, c.loop-turns-test.true)),
+  λ before had g. going ((c.loop-turns.invariant.5 before had g).goes c.if-s.true) c.loop-turns.invariant.4 _ (c.take_step-s-in-loop-turns.ensures.made, (c.take_step-s-in-loop-turns.ensures.written, c.take_step-s-in-loop-turns.ensures.read)) _ (omega (arith, c.loop-turns-test.true)),
 )
 
 pub shape_of-block : goal.shape_of-block
@@ -48,5 +48,5 @@ shape_of-out c = c.loop-turns.invariant.3 ∙ c.take_step-s.auto.1.1.1.1.1.1.1.0
 pub returns : goal.returns
 returns c =
     finished _ _
-    (c.loop-turns.invariant.5 _ _ (going (begin _ _ max_u64 (omega arith)) c.requires _ (c.take_step-s.ensures.made, c.take_step-s.ensures.written, c.take_step-s.ensures.read) _ (omega arith)))
+    (c.loop-turns.invariant.5 _ _ (going (begin _ _ max_u64 (omega arith)) c.requires _ (c.take_step-s.ensures.made, (c.take_step-s.ensures.written, c.take_step-s.ensures.read)) _ (omega arith)))
     (λ e v. ⊎_elim (λ x. apart (sym v ∙ x.2.left)) (λ y. ⊎_elim (λ x. apart (sym e ∙ x.1.left)) (λ x. omega (arith, x)) y) c.loop-turns-test.branch)

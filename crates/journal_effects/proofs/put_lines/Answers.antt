@@ -10,4 +10,4 @@ shape_of-out c = length_kept (laid _ _ _ (c.put_effect.ensures.bytes, c.put_effe
 
 pub returns : goal.returns
 unfolding lines_text
-returns c = record { bytes = (joined (laid _ _ _ (c.put_effect-p.ensures.bytes, c.put_effect-p.ensures.place)) (laid _ _ _ (c.put_effect-p-2.ensures.bytes, c.put_effect-p-2.ensures.place)) (laid _ _ _ (c.put_effect-p-3.ensures.bytes, c.put_effect-p-3.ensures.place)) (laid _ _ _ (c.put_effect.ensures.bytes, c.put_effect.ensures.place)) c.put_effect-p.ensures.short c.put_effect-p-2.ensures.short c.put_effect-p-3.ensures.short c.put_effect.ensures.short).0; place = (joined (laid _ _ _ (c.put_effect-p.ensures.bytes, c.put_effect-p.ensures.place)) (laid _ _ _ (c.put_effect-p-2.ensures.bytes, c.put_effect-p-2.ensures.place)) (laid _ _ _ (c.put_effect-p-3.ensures.bytes, c.put_effect-p-3.ensures.place)) (laid _ _ _ (c.put_effect.ensures.bytes, c.put_effect.ensures.place)) c.put_effect-p.ensures.short c.put_effect-p-2.ensures.short c.put_effect-p-3.ensures.short c.put_effect.ensures.short).1; short = (joined (laid _ _ _ (c.put_effect-p.ensures.bytes, c.put_effect-p.ensures.place)) (laid _ _ _ (c.put_effect-p-2.ensures.bytes, c.put_effect-p-2.ensures.place)) (laid _ _ _ (c.put_effect-p-3.ensures.bytes, c.put_effect-p-3.ensures.place)) (laid _ _ _ (c.put_effect.ensures.bytes, c.put_effect.ensures.place)) c.put_effect-p.ensures.short c.put_effect-p-2.ensures.short c.put_effect-p-3.ensures.short c.put_effect.ensures.short).2 }
+returns c = record { bytes = (joined (laid _ _ _ (c.put_effect-p.ensures.bytes, c.put_effect-p.ensures.place)) (laid _ _ _ (c.put_effect-p-2.ensures.bytes, c.put_effect-p-2.ensures.place)) (laid _ _ _ (c.put_effect-p-3.ensures.bytes, c.put_effect-p-3.ensures.place)) (laid _ _ _ (c.put_effect.ensures.bytes, c.put_effect.ensures.place)) c.put_effect-p.ensures.short c.put_effect-p-2.ensures.short c.put_effect-p-3.ensures.short c.put_effect.ensures.short).0; place = (joined (laid _ _ _ (c.put_effect-p.ensures.bytes, c.put_effect-p.ensures.place)) (laid _ _ _ (c.put_effect-p-2.ensures.bytes, c.put_effect-p-2.ensures.place)) (laid _ _ _ (c.put_effect-p-3.ensures.bytes, c.put_effect-p-3.ensures.place)) (laid _ _ _ (c.put_effect.ensures.bytes, c.put_effect.ensures.place)) c.put_effect-p.ensures.short c.put_effect-p-2.ensures.short c.put_effect-p-3.ensures.short c.put_effect.ensures.short).1.0; short = (joined (laid _ _ _ (c.put_effect-p.ensures.bytes, c.put_effect-p.ensures.place)) (laid _ _ _ (c.put_effect-p-2.ensures.bytes, c.put_effect-p-2.ensures.place)) (laid _ _ _ (c.put_effect-p-3.ensures.bytes, c.put_effect-p-3.ensures.place)) (laid _ _ _ (c.put_effect.ensures.bytes, c.put_effect.ensures.place)) c.put_effect-p.ensures.short c.put_effect-p-2.ensures.short c.put_effect-p-3.ensures.short c.put_effect.ensures.short).1.1 }
