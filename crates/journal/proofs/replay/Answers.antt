@@ -29,10 +29,16 @@ shape_of-line-then-o c = c.run.auto.1.0 ∙ c.next_line-s.auto.1.0
 
 pub returns-then-o : goal.returns-then-o
 returns-then-o c =
-    record { bound = omega (arith, c.run.ensures.bound, c.open_journal-o.auto); replayed = good_first _ _ c.requires.2 c.requires.1 (λ (s : Numbers). whole s c.args.connect.now c.args.targets.now (tables_of c.args.ledger.now) c.args.ledger.now c.args.sent.now) (blank_lent c.requires.3 c.requires.4 c.requires.5 c.requires.6 c.requires.7) c.next_line-s.ensures.block.1 c.requires.0 (sym c.open_journal-o.ensures.good ∙ c.if-o.true)
-      (ap (λ (s : Numbers). whole s c.args.connect.now c.args.targets.now (tables_of c.args.ledger.now) c.args.ledger.now c.args.sent.now) c.open_journal-o.ensures.state.0 ∙ blank_lent c.requires.3 c.requires.4 c.requires.5 c.requires.6 c.requires.7 _) c.open_journal-o.ensures.state.1.0 c.run.ensures.ran }
+    record {
+      bound = omega (arith, c.run.ensures.bound, c.open_journal-o.auto);
+      replayed = good_first _ _ c.requires.2 c.requires.1 (λ (s : Numbers). whole s c.args.connect.now c.args.targets.now (tables_of c.args.ledger.now) c.args.ledger.now c.args.sent.now) (blank_lent c.requires.3 c.requires.4 c.requires.5 c.requires.6 c.requires.7) c.next_line-s.ensures.block.1 c.requires.0 (sym c.open_journal-o.ensures.good ∙ c.if-o.true)
+          (ap (λ (s : Numbers). whole s c.args.connect.now c.args.targets.now (tables_of c.args.ledger.now) c.args.ledger.now c.args.sent.now) c.open_journal-o.ensures.state.0 ∙ blank_lent c.requires.3 c.requires.4 c.requires.5 c.requires.6 c.requires.7 _) c.open_journal-o.ensures.state.1.0 c.run.ensures.ran;
+    }
 
 pub returns : goal.returns
 returns c =
-    record { bound = opened_within _ _ c.open_journal-o.ensures.state.1.1; replayed = refused_first _ _ c.requires.2 c.requires.1 (λ (s : Numbers). whole s c.args.connect.now c.args.targets.now (tables_of c.args.ledger.now) c.args.ledger.now c.args.sent.now) (blank_lent c.requires.3 c.requires.4 c.requires.5 c.requires.6 c.requires.7) c.next_line-s.ensures.block.1 c.requires.0 c.if-s.false (sym c.open_journal-o.ensures.good ∙ c.if-o.false)
-      c.open_journal-o.ensures.state.1.0 c.open_journal-o.ensures.state.1.1 }
+    record {
+      bound = opened_within _ _ c.open_journal-o.ensures.state.1.1;
+      replayed = refused_first _ _ c.requires.2 c.requires.1 (λ (s : Numbers). whole s c.args.connect.now c.args.targets.now (tables_of c.args.ledger.now) c.args.ledger.now c.args.sent.now) (blank_lent c.requires.3 c.requires.4 c.requires.5 c.requires.6 c.requires.7) c.next_line-s.ensures.block.1 c.requires.0 c.if-s.false (sym c.open_journal-o.ensures.good ∙ c.if-o.false)
+          c.open_journal-o.ensures.state.1.0 c.open_journal-o.ensures.state.1.1;
+    }
