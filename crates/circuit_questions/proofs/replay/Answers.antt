@@ -20,13 +20,13 @@ pub slice_bounds-open_journal-end-2 : goal.slice_bounds-open_journal-end-2
 slice_bounds-open_journal-end-2 c = simp length-take (omega (arith, c.next_line-s.ensures.used))
 
 pub run-requires : goal.run-requires
-run-requires c = omega (arith, c.requires.0, c.next_line-s.auto.1)
+run-requires c = omega (arith, c.requires.0, c.next_line-s.auto.line)
 
 pub shape_of-block-then-o : goal.shape_of-block-then-o
-shape_of-block-then-o c = c.run.auto.0 ∙ c.next_line-s.auto.0
+shape_of-block-then-o c = c.run.auto.block ∙ c.next_line-s.auto.block
 
 pub shape_of-line-then-o : goal.shape_of-line-then-o
-shape_of-line-then-o c = c.run.auto.1.0 ∙ c.next_line-s.auto.1.0
+shape_of-line-then-o c = c.run.auto.line ∙ c.next_line-s.auto.line
 
 pub returns-then-o : goal.returns-then-o
 returns-then-o c =
