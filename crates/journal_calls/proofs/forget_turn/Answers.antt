@@ -5,6 +5,6 @@ pub returns : goal.returns
 returns c =
     record {
       turn = c.say.ensures;
-      tables = (c.forget.ensures.tables).0;
-      words = (c.forget.ensures.tables).1;
+      tables = c.forget.ensures.tables;
+      words = c.forget.ensures.words;
     }
