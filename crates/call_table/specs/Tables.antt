@@ -1,6 +1,6 @@
 -- A table of calls is text (README.md, "Changing something"): a row for each call, with line feeds, 10, between. A row is the call's form,
 -- and behind it the form of each of its answers, with bars, 124, between.
-use Rattle.std.specs.Prelude.{ℕ, zero, suc, ◌+◌, Bool, true, false, List, [], ◌∷◌, ◌++◌, leb, length, drop, replicate}
+use Rattle.std.specs.Prelude.{ℕ, zero, suc, ◌+◌, Bool, true, false, List, [], ◌++◌, leb, length, drop, replicate}
 use Rattle.prelude.specs.Choice.{pick}
 use Rattle.text.specs.Words.{ascii, length_before}
 use Rattle.text.specs.Hexadecimal.{bytes_of}

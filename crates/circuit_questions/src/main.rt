@@ -25,7 +25,11 @@ use ledger::Ledger;
 use lent::TargetBytes;
 use line_program::Reading;
 use path::Claim;
+use std::io::{Stdin, Stdout};
 use vocabulary::Deadline;
+
+// How many bytes one read may bring, and how many an answer may have.
+const BUFFER: usize = 65536;
 
 // ---- what the circuit answers
 
@@ -166,6 +170,8 @@ pub struct Step {
 
 // Reads the next line, answers it and writes its answer.
 fn take_step(
+    input: Stdin,
+    output: Stdout,
     block: &mut [u8],
     line: &mut [u8],
     connect: &mut FrameBytes,
@@ -183,7 +189,7 @@ fn take_step(
     ensures written { is_line result.reading.failed result.reading.ended result.reading.used ≡ false → result.written ≡ true }
     ensures read { NextLine line.old (left block.old from until) block.new line.new result.reading }
 {
-    let s = line_program::next_line(block, line, from, until);
+    let s = line_program::next_line(input, block, line, from, until);
     if line_program::is_line(s.failed, s.ended, s.used) {
         let used = s.used;
         let a = answer_line(
@@ -198,7 +204,7 @@ fn take_step(
             out,
         );
         let next = a.state;
-        let written = line_program::print(out, a.end);
+        let written = line_program::print(output, out, a.end);
         return Step {
             reading: s,
             state: next,
@@ -226,6 +232,8 @@ pub struct Ending {
 // loop, so that the loop carries what a step leaves and no more. A proved loop has to end, so it counts its turns down from a number that no
 // run uses up.
 fn run(
+    input: Stdin,
+    output: Stdout,
     block: &mut [u8],
     line: &mut [u8],
     connect: &mut FrameBytes,
@@ -241,6 +249,8 @@ fn run(
     ensures { Ran (state (whole opened connect.old targets.old (tables_of ledger.old) ledger.old sent.old) reply.old out.old 0) (left block.old first.from first.until) block.new (λ (s : Numbers). whole s connect.new targets.new (tables_of ledger.new) ledger.new sent.new) reply.new out.new result }
 {
     let mut s = take_step(
+        input,
+        output,
         block,
         line,
         connect,
@@ -258,6 +268,8 @@ fn run(
     while 0 < turns && s.reading.ended && s.written {
         let state = s.state;
         s = take_step(
+            input,
+            output,
             block,
             line,
             connect,
@@ -283,6 +295,8 @@ fn run(
 
 // The first line, and the others where it is good.
 fn replay(
+    input: Stdin,
+    output: Stdout,
     block: &mut [u8],
     line: &mut [u8],
     connect: &mut FrameBytes,
@@ -295,7 +309,7 @@ fn replay(
     requires { (longest ≤ length line.old) × (connect.old ≡ no_frame) × (targets.old ≡ no_aims) × (sent.old ≡ no_frame) × (ledger.old ≡ replicate ledger_words 0) × (tables_of ledger.old ≡ empty_ledger) }
     ensures { Replayed reply.old out.old block.new (λ (s : Numbers). whole s connect.new targets.new (tables_of ledger.new) ledger.new sent.new) reply.new out.new result }
 {
-    let s = line_program::next_line(block, line, 0, 0);
+    let s = line_program::next_line(input, block, line, 0, 0);
     if s.failed {
         return Ending {
             reading: s,
@@ -308,10 +322,10 @@ fn replay(
     if o.good {
         let opened = o.state;
         return run(
-            block, line, connect, targets, sent, ledger, reply, out, s, opened,
+            input, output, block, line, connect, targets, sent, ledger, reply, out, s, opened,
         );
     }
-    let written = line_program::print(out, o.next);
+    let written = line_program::print(output, out, o.next);
     Ending {
         reading: s,
         handed: o.next,
@@ -319,17 +333,19 @@ fn replay(
     }
 }
 
-fn main() {
-    let mut block = io::large_buffer();
+fn main(rt: HostRuntime) {
+    let mut block = [0u8; BUFFER];
     let mut line = [0u8; lines::LONGEST];
     let mut reply = [0u8; wire::MAX_FRAME_SIZE];
-    let mut out = io::large_buffer();
+    let mut out = [0u8; BUFFER];
     let mut connect = frames::blank();
     let mut sent = frames::blank();
     let none = candidates::Chosen::empty();
     let mut targets = none.bytes;
     let mut ledger = ledger::empty();
     replay(
+        rt.stdin(),
+        rt.stdout(),
         &mut block,
         &mut line,
         &mut connect,

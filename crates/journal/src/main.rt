@@ -20,6 +20,11 @@ use journal_calls::State;
 use ledger::Ledger;
 use lent::TargetBytes;
 use line_program::Reading;
+use std::env::{Env, FillError};
+use std::io::{Stderr, Stdin, Stdout, Write};
+
+// How many bytes one read may bring, and how many may wait to be written.
+const BUFFER: usize = 65536;
 
 // Room for the output lines of one line: there are four at most.
 const ROOM: usize = 4 * journal_prints::ROOM;
@@ -35,6 +40,8 @@ pub struct Step {
 
 // Reads the next line, gathers what it prints, and hands over what waits before the next read.
 fn take_step(
+    input: Stdin,
+    output: Stdout,
     block: &mut [u8],
     line: &mut [u8],
     connect: &mut FrameBytes,
@@ -56,7 +63,7 @@ fn take_step(
     ensures written { waiting + 4 * room ≤ length out.old → (step_of result.reading block.new line.new (whole j connect.old targets.old (tables_of ledger.old) ledger.old sent.old) reply.old out.old waiting).handed ≡ [] → result.written ≡ true }
     ensures read { NextLine line.old (left block.old from until) block.new line.new result.reading }
 {
-    let s = line_program::next_line(block, line, from, until);
+    let s = line_program::next_line(input, block, line, from, until);
     if line_program::is_line(s.failed, s.ended, s.used) {
         let used = s.used;
         let a = journal_text::answer_line(
@@ -72,7 +79,7 @@ fn take_step(
             waiting,
         );
         let next = a.state;
-        let w = line_program::hand_over(block, s.from, s.until, out, a.next, ROOM);
+        let w = line_program::hand_over(output, block, s.from, s.until, out, a.next, ROOM);
         return Step {
             reading: s,
             state: next,
@@ -99,6 +106,8 @@ pub struct Ending {
 // Goes through the lines behind the first, up to one that no line feed ended. One step stands before the loop, so that the loop carries
 // what a step leaves and no more. A proved loop has to end, so it counts its turns down from a number that no run uses up.
 fn run(
+    input: Stdin,
+    output: Stdout,
     block: &mut [u8],
     line: &mut [u8],
     connect: &mut FrameBytes,
@@ -115,6 +124,8 @@ fn run(
     ensures ran { Ran (state (whole opened connect.old targets.old (tables_of ledger.old) ledger.old sent.old) reply.old out.old 0 []) (left block.old first.from first.until) block.new (λ (s : Numbers). whole s connect.new targets.new (tables_of ledger.new) ledger.new sent.new) reply.new out.new result }
 {
     let mut s = take_step(
+        input,
+        output,
         block,
         line,
         connect,
@@ -132,6 +143,8 @@ fn run(
     while 0 < turns && s.reading.ended && s.written {
         let state = s.state;
         s = take_step(
+            input,
+            output,
             block,
             line,
             connect,
@@ -156,26 +169,22 @@ fn run(
 }
 
 // Writes what waits, but not behind a gap; what failed is told on standard error.
-fn finish(out: &[u8], e: Ending) {
+fn finish(output: Stdout, mut errors: Stderr, out: &[u8], e: Ending) {
     if e.reading.failed {
-        io::write_all(
-            libc::STDERR_FILENO,
-            b"journal: standard input cannot be read\n",
-        );
+        let _ = errors.write_all(b"journal: standard input cannot be read\n");
     }
     if e.written {
-        if line_program::print(out, e.waiting) {
+        if line_program::print(output, out, e.waiting) {
             return;
         }
     }
-    io::write_all(
-        libc::STDERR_FILENO,
-        b"journal: standard output cannot be written\n",
-    );
+    let _ = errors.write_all(b"journal: standard output cannot be written\n");
 }
 
 // The first line, and the others where it is good.
 fn replay(
+    input: Stdin,
+    output: Stdout,
     block: &mut [u8],
     line: &mut [u8],
     connect: &mut FrameBytes,
@@ -189,7 +198,7 @@ fn replay(
     ensures bound { result.waiting ≤ length out.old }
     ensures replayed { Replayed reply.old out.old block.new (λ (s : Numbers). whole s connect.new targets.new (tables_of ledger.new) ledger.new sent.new) reply.new out.new result }
 {
-    let s = line_program::next_line(block, line, 0, 0);
+    let s = line_program::next_line(input, block, line, 0, 0);
     if s.failed {
         return Ending {
             reading: s,
@@ -202,7 +211,7 @@ fn replay(
     if o.good {
         let opened = o.state;
         return run(
-            block, line, connect, targets, sent, ledger, reply, out, s, opened,
+            input, output, block, line, connect, targets, sent, ledger, reply, out, s, opened,
         );
     }
     Ending {
@@ -212,22 +221,33 @@ fn replay(
     }
 }
 
+// Whether the program was given an argument behind its own name.
+fn has_argument(rt: HostRuntime) -> bool {
+    match rt.arg(1, &mut [0u8; 1]) {
+        Ok(_) => true,
+        Err(FillError::TooLong) => true,
+        Err(FillError::NotPresent) => false,
+    }
+}
+
 // With an argument, whatever it is, the program only says by which version of the rule it replays.
-fn main() {
-    if 1 < os::arg_count() {
-        io::write_all(libc::STDOUT_FILENO, b"rule version 2\n");
+fn main(rt: HostRuntime) {
+    if has_argument(rt) {
+        let _ = rt.stdout().write_all(b"rule version 2\n");
         return;
     }
-    let mut block = io::large_buffer();
+    let mut block = [0u8; BUFFER];
     let mut line = [0u8; lines::LONGEST];
     let mut reply = [0u8; wire::MAX_FRAME_SIZE];
-    let mut out = io::large_buffer();
+    let mut out = [0u8; BUFFER];
     let mut connect = frames::blank();
     let mut sent = frames::blank();
     let none = candidates::Chosen::empty();
     let mut targets = none.bytes;
     let mut ledger = ledger::empty();
     let e = replay(
+        rt.stdin(),
+        rt.stdout(),
         &mut block,
         &mut line,
         &mut connect,
@@ -237,5 +257,5 @@ fn main() {
         &mut reply,
         &mut out,
     );
-    finish(&out, e);
+    finish(rt.stdout(), rt.stderr(), &out, e);
 }

@@ -25,7 +25,7 @@ use Rattle.vocabulary.specs.declared.Settings.{Settings}
 use Rattle.vocabulary.specs.declared.StreamInput.{StreamInput}
 use Rattle.vocabulary.specs.declared.StreamInput.TheVariants as input
 use Rattle.forms.specs.Forms.{kind_of as mark_of, split, on_first, which_word}
-use Rattle.forms.specs.Texts.{number, some, absent, pair, unpaired, bytes, word as chosenWord, text, kind_of_value, InRange, Fits, FitsFrom, is_form, is_form_from, value_in, values_from}
+use Rattle.forms.specs.Texts.{number, some, absent, pair, unpaired, bytes, word as chosenWord, kind_of_value, InRange, Fits, FitsFrom, is_form, is_form_from, value_in, values_from}
 use Rattle.forms.specs.declared.Kind.TheVariants as mark
 use Rattle.forms.proofs.Only.{get}
 use Rattle.forms.proofs.Back.{got, got_none, words_read}

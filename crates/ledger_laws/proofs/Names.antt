@@ -232,6 +232,7 @@ name_kept_all l conn (c ∷ cs) s = go (spares conn c) refl (name_kept_all (afte
 -- ---- the windows that are freed
 in_such : (p : Row → Bool) (r : Row) (rs : List Row) → In r (such p rs) → In r rs × (p r ≡ true)
 unfolding such
+in_such p r [] i = elim i [ ]
 in_such p r (x ∷ rs) i = go (p x) refl (in_such p r rs) i
   where
     go : (t : Bool) → p x ≡ t → (In r (such p rs) → In r rs × (p r ≡ true)) → In r (pick t (x ∷ such p rs) (such p rs)) → In r (x ∷ rs) × (p r ≡ true)
@@ -241,6 +242,7 @@ in_such p r (x ∷ rs) i = go (p x) refl (in_such p r rs) i
 
 such_in : (p : Row → Bool) (r : Row) (rs : List Row) → p r ≡ true → In r rs → In r (such p rs)
 unfolding such
+such_in p r [] e i = elim i [ ]
 such_in p r (x ∷ rs) e (here q) = rw (ap p (sym q) ∙ e) (here q)
 such_in p r (x ∷ rs) e (there i) = go (p x) (such_in p r rs e i)
   where

@@ -6,7 +6,7 @@ ghost use Rattle.std.specs.Prelude.{◌≡◌, true, ◌+◌, ◌≤◌, length,
 ghost use Rattle.line_program.specs.Waits.{is_line, stays, waiting_after, handed_after};
 ghost use Rattle.line_program.specs.Reads.{left, has_line, refilled, Turned, NextLine};
 
-use libc::{STDIN_FILENO, STDOUT_FILENO};
+use std::io::{Read, Stdin, Stdout, Write};
 
 // A line's bytes are the first `used` of its buffer, which a line too long fills. A line feed ended it, or the input ended, where there is
 // no `more`, or failed. The block's bytes from `from` up to `until` are still to be read.
@@ -21,42 +21,40 @@ pub struct Reading {
 }
 
 // Reads a block; a read that fails brings none.
-fn fill(block: &mut [u8], used: usize) -> Reading
+fn fill(mut input: Stdin, block: &mut [u8], used: usize) -> Reading
     ensures result { result ≡ refilled used result.until result.failed }
     ensures block { result.until ≤ length block.old }
     ensures failed { result.failed ≡ true → result.until ≡ 0 }
 {
-    let got = libc::read(STDIN_FILENO, block);
-    if got < 0 {
-        return Reading {
+    match input.read(block) {
+        Ok(n) => Reading {
+            used: used,
+            ended: false,
+            more: 0 < n,
+            failed: false,
+            from: 0,
+            until: n,
+        },
+        Err(_) => Reading {
             used: used,
             ended: false,
             more: false,
             failed: true,
             from: 0,
             until: 0,
-        };
-    }
-    let n = io::count(got, block);
-    Reading {
-        used: used,
-        ended: false,
-        more: 0 < n,
-        failed: false,
-        from: 0,
-        until: n,
+        },
     }
 }
 
 // Goes on with a line: by what the block has of it, or by a block more.
-fn read_on(block: &mut [u8], line: &mut [u8], s: Reading) -> Reading
+fn read_on(input: Stdin, block: &mut [u8], line: &mut [u8], s: Reading) -> Reading
     requires { (s.used ≤ length line.old) × (s.until ≤ length block.old) }
     ensures used { result.used ≤ length line.old }
     ensures block { result.until ≤ length block.old }
     ensures read { Turned 1 line.old s.used (left block.old s.from s.until) block.new line.new result }
 {
     if s.until <= s.from {
-        return fill(block, s.used);
+        return fill(input, block, s.used);
     }
     let until = s.until;
     let g = lines::gather(&block[..until], s.from, line, s.used);
@@ -72,7 +70,13 @@ fn read_on(block: &mut [u8], line: &mut [u8], s: Reading) -> Reading
 
 // Reads the next line, up to its line feed or the input's end, where the block's bytes from `from` up to `until` come first. A proved
 // loop has to end, so it counts its turns down from a number that no line of fewer than 2^63 - 1 bytes uses up.
-pub fn next_line(block: &mut [u8], line: &mut [u8], from: usize, until: usize) -> Reading
+pub fn next_line(
+    input: Stdin,
+    block: &mut [u8],
+    line: &mut [u8],
+    from: usize,
+    until: usize,
+) -> Reading
     ensures used { result.used ≤ length line.old }
     ensures block { result.until ≤ length block.old }
     ensures read { NextLine line.old (left block.old from until) block.new line.new result }
@@ -88,7 +92,7 @@ pub fn next_line(block: &mut [u8], line: &mut [u8], from: usize, until: usize) -
     };
     let mut turns = u64::MAX;
     while 0 < turns && s.more && !s.ended {
-        s = read_on(block, line, s);
+        s = read_on(input, block, line, s);
         turns -= 1;
     }
     s
@@ -106,13 +110,13 @@ pub fn has_line(block: &[u8], from: usize, until: usize) -> bool
 }
 
 // Writes the first n bytes of a text to standard output: whether there are so many and all were written.
-pub fn print(text: &[u8], n: usize) -> bool
+pub fn print(mut output: Stdout, text: &[u8], n: usize) -> bool
     ensures { result ≡ true → n ≤ length text.now }
 {
     if text.len() < n {
         return false;
     }
-    io::write_all(STDOUT_FILENO, &text[..n])
+    output.write_all(&text[..n]).is_ok()
 }
 
 // ---- what waits to be written
@@ -168,6 +172,7 @@ fn may_stay(
 
 // Writes what waits unless it may stay. Where nothing waits nothing is written, so that nothing fails.
 pub fn hand_over(
+    output: Stdout,
     block: &[u8],
     from: usize,
     until: usize,
@@ -190,7 +195,7 @@ pub fn hand_over(
             written: true,
         };
     }
-    let written = print(out, waiting);
+    let written = print(output, out, waiting);
     Waiting {
         bytes: 0,
         written: written,

@@ -1,6 +1,4 @@
 // Dropping the dials of a connect attempt (`abort_attempt_dials` of ledger.rs), over the live connections as a lent slice of records.
-// The borrow checker covers no function with a reference to a slice of structs: `first_live`, `first_lives` and `abort_attempt_dials` are
-// proved by hand, walking their code. The others are covered.
 #![tactic(auto)]
 
 ghost use Rattle.std.specs.Prelude.{◌≡◌, ◌<◌, get_or, set};

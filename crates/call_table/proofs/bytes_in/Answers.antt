@@ -1,4 +1,3 @@
-use borrow.Author.Rules.{rules}
 use Rattle.call_table.proofs.Calling.{bytes_none, bytes_many, bytes_read}
 use Rattle.call_table.proofs.bytes_in.Goals as goal
 

@@ -1,10 +1,6 @@
-use mathlib.Core.Path.{◌≡◌, refl}
-use Prim.Native.Nat.{◌≤◌, ◌-◌}
+use mathlib.Core.Path.{refl}
 use native.Mathlib.Omega.{arith}
-use lib.ListN.{length}
-use Rattle.call_table.specs.Tables.{part_from}
 use Rattle.call_table.proofs.Parts.{end_within, part_here, part_missing, part_next}
-use borrow.Author.Rules.{rules}
 use Rattle.call_table.proofs.part_of.Goals as goal
 
 pub loop-left-init : goal.loop-left-init

@@ -1,10 +1,7 @@
-use mathlib.Core.Path.{◌≡◌, refl}
+use mathlib.Core.Path.{◌≡◌}
 use Prim.Native.Nat.{◌≤◌, ◌-◌}
-use native.Mathlib.Omega.{arith}
 use lib.ListN.{length}
 use Rattle.call_table.specs.Tables.{part_from}
-use Rattle.call_table.proofs.Parts.{end_within, part_here, part_missing, part_next}
-use borrow.Author.Rules.{rules}
 use Rattle.call_table.proofs.part_of.Given as goal
 
 abbrev pub invariant-loop-left : goal.invariant-loop-left

@@ -1,4 +1,3 @@
-use borrow.Author.Rules.{rules}
 use Rattle.text.proofs.Printing.{laid, parts, then}
 use Rattle.line_program.proofs.Answers.{renamed}
 use Rattle.call_table.proofs.Calling.{said_by_lem}

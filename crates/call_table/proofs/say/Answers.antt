@@ -1,4 +1,3 @@
-use borrow.Author.Rules.{rules}
 use Rattle.call_table.proofs.say.Goals as goal
 
 pub returns : goal.returns

@@ -1,4 +1,3 @@
-use borrow.Author.Rules.{rules}
 use Rattle.call_table.proofs.Calling.{row_read, row_unread}
 use Rattle.call_table.proofs.try_row.Goals as goal
 

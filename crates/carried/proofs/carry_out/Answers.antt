@@ -4,4 +4,11 @@ use Rattle.carried.proofs.carry_out.Goals as goal
 
 pub returns : goal.returns
 unfolding ledger_after framed_by sent_after connect_after
-returns c = (c.write_connect.ensures.answer, (c.write_connect.ensures.connect, (c.send.ensures, (c.settle_window.ensures.tables, c.settle_window.ensures.words))))
+returns c =
+    record {
+      answer = c.write_connect.ensures.answer;
+      connect = c.write_connect.ensures.connect;
+      sent = c.send.ensures;
+      tables = c.settle_window.ensures.tables;
+      words = c.settle_window.ensures.words;
+    }

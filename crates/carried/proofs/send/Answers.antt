@@ -1,5 +1,6 @@
 use Rattle.carried.specs.Carried.{sent_after}
-use mathlib.Core.Path.{sym}
+use mathlib.Core.Path.{sym, ap, ◌∙◌}
+use Rattle.frames.specs.declared.Framed.{Framed}
 use borrow.Author.Rules.{rules}
 use Rattle.carried.proofs.send.Goals as goal
 
@@ -13,4 +14,4 @@ returns-in-Connect c = simp (sym c.copy_frame.ensures, c.in-Connect.is)
 
 pub returns-in-Sync : goal.returns-in-Sync
 unfolding sent_after
-returns-in-Sync c = simp (sym c.copy_frame-in-Sync.ensures, sym c.sync_frame-sync.ensures, c.in-Sync.is)
+returns-in-Sync c = rw c.in-Sync.is (c.copy_frame-in-Sync.ensures ∙ ap (λ (f : Framed). f.bytes) c.sync_frame-sync.ensures)

@@ -13,4 +13,4 @@ returns-in-Removed c = record { tables = (window_removed c.args.source c.args.le
 
 pub returns-in-Opened : goal.returns-in-Opened
 unfolding ledger_after
-returns-in-Opened c = record { tables = (window_opened c.args.source c.args.ledger.now c.in-Opened.is c.expect_punches.ensures.tables).0; words = (window_opened c.args.source c.args.ledger.now c.in-Opened.is c.expect_punches.ensures.tables).1 }
+returns-in-Opened c = record { tables = (window_opened c.args.source c.args.ledger.now c.in-Opened.is (c.expect_punches.ensures.tables, c.expect_punches.ensures.words)).0; words = (window_opened c.args.source c.args.ledger.now c.in-Opened.is (c.expect_punches.ensures.tables, c.expect_punches.ensures.words)).1 }

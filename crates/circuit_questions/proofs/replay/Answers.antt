@@ -14,32 +14,32 @@ returns-then-s c =
     let a = c.args in
     let p = c.requires in
     unread_first _ _ (λ (s : Numbers). whole s a.connect.now a.targets.now (tables_of a.ledger.now) a.ledger.now a.sent.now)
-    (blank_lent p.1 p.2 p.3 p.4 p.5) c.next_line-s.ensures.block.1 p.0 c.if-s.true
+    (blank_lent p.1 p.2 p.3 p.4 p.5) c.next_line-s.ensures.read p.0 c.if-s.true
 
 pub slice_bounds-open_journal-end-2 : goal.slice_bounds-open_journal-end-2
 slice_bounds-open_journal-end-2 c = simp length-take (omega (arith, c.next_line-s.ensures.used))
 
 pub run-requires : goal.run-requires
-run-requires c = omega (arith, c.requires.0, c.next_line-s.auto.1)
+run-requires c = omega (arith, c.requires.0, c.next_line-s.auto.line)
 
 pub shape_of-block-then-o : goal.shape_of-block-then-o
-shape_of-block-then-o c = c.run.auto.0 ∙ c.next_line-s.auto.0
+shape_of-block-then-o c = c.run.auto.block ∙ c.next_line-s.auto.block
 
 pub shape_of-line-then-o : goal.shape_of-line-then-o
-shape_of-line-then-o c = c.run.auto.1.0 ∙ c.next_line-s.auto.1.0
+shape_of-line-then-o c = c.run.auto.line ∙ c.next_line-s.auto.line
 
 pub returns-then-o : goal.returns-then-o
 returns-then-o c =
     let a = c.args in
     let p = c.requires in
     good_first _ _ (λ (s : Numbers). whole s a.connect.now a.targets.now (tables_of a.ledger.now) a.ledger.now a.sent.now)
-    (blank_lent p.1 p.2 p.3 p.4 p.5) c.next_line-s.ensures.block.1 p.0 (sym c.open_journal-o.ensures.good ∙ c.if-o.true)
-    (ap (λ (s : Numbers). whole s a.connect.now a.targets.now (tables_of a.ledger.now) a.ledger.now a.sent.now) c.open_journal-o.ensures.state.0
-    ∙ blank_lent p.1 p.2 p.3 p.4 p.5 _) c.open_journal-o.ensures.state.1.0 c.run.ensures
+    (blank_lent p.1 p.2 p.3 p.4 p.5) c.next_line-s.ensures.read p.0 (sym c.open_journal-o.ensures.good ∙ c.if-o.true)
+    (ap (λ (s : Numbers). whole s a.connect.now a.targets.now (tables_of a.ledger.now) a.ledger.now a.sent.now) c.open_journal-o.ensures.state
+    ∙ blank_lent p.1 p.2 p.3 p.4 p.5 _) c.open_journal-o.ensures.bytes c.run.ensures
 
 pub returns : goal.returns
 returns c =
     let a = c.args in
     let p = c.requires in
     refused_first _ _ (λ (s : Numbers). whole s a.connect.now a.targets.now (tables_of a.ledger.now) a.ledger.now a.sent.now)
-    (blank_lent p.1 p.2 p.3 p.4 p.5) c.next_line-s.ensures.block.1 p.0 c.if-s.false (sym c.open_journal-o.ensures.good ∙ c.if-o.false) _ c.open_journal-o.ensures.state.1.0 c.open_journal-o.ensures.state.1.1
+    (blank_lent p.1 p.2 p.3 p.4 p.5) c.next_line-s.ensures.read p.0 c.if-s.false (sym c.open_journal-o.ensures.good ∙ c.if-o.false) _ c.open_journal-o.ensures.bytes c.open_journal-o.ensures.place

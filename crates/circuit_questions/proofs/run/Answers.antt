@@ -15,7 +15,7 @@ use borrow.Author.Rules.{rules}
 use Rattle.circuit_questions.proofs.run.Goals as goal
 
 pub loop-turns-init : goal.loop-turns-init
-loop-turns-init c = (refl, refl, refl, refl, omega (arith, c.take_step-s.auto.1.0, c.requires), λ before had g. g)
+loop-turns-init c = (refl, refl, refl, refl, omega (arith, c.take_step-s.auto.line, c.requires), λ before had g. g)
 
 pub overflow_sub-turns : goal.overflow_sub-turns
 overflow_sub-turns c = omega (arith, c.loop-turns-test.true)
@@ -25,28 +25,28 @@ loop-turns-smaller c = omega (arith, c.loop-turns-test.true)
 
 pub loop-turns-preserved : goal.loop-turns-preserved
 loop-turns-preserved c = (
-  c.take_step-s-in-loop-turns.auto.0 ∙ c.loop-turns.invariant.0,
-  c.take_step-s-in-loop-turns.auto.1.0 ∙ c.loop-turns.invariant.1,
-  c.take_step-s-in-loop-turns.auto.1.1.1.1.1.1.0 ∙ c.loop-turns.invariant.2,
-  c.take_step-s-in-loop-turns.auto.1.1.1.1.1.1.1.0 ∙ c.loop-turns.invariant.3,
-  omega (arith, c.take_step-s-in-loop-turns.auto.1.0, c.loop-turns.invariant.4),
-  λ before had g. going ((c.loop-turns.invariant.5 before had g).goes c.if-s.true) c.loop-turns.invariant.4 _ (c.take_step-s-in-loop-turns.ensures.made, c.take_step-s-in-loop-turns.ensures.written, c.take_step-s-in-loop-turns.ensures.read) _ (omega (arith, c.loop-turns-test.true)),
+  c.take_step-s-in-loop-turns.auto.block ∙ c.loop-turns.invariant.0,
+  c.take_step-s-in-loop-turns.auto.line ∙ c.loop-turns.invariant.1,
+  c.take_step-s-in-loop-turns.auto.reply ∙ c.loop-turns.invariant.2,
+  c.take_step-s-in-loop-turns.auto.out ∙ c.loop-turns.invariant.3,
+  omega (arith, c.take_step-s-in-loop-turns.auto.line, c.loop-turns.invariant.4),
+  λ before had g. going ((c.loop-turns.invariant.5 before had g).goes c.if-s.true) c.loop-turns.invariant.4 _ (c.take_step-s-in-loop-turns.ensures.made, (c.take_step-s-in-loop-turns.ensures.written, c.take_step-s-in-loop-turns.ensures.read)) _ (omega (arith, c.loop-turns-test.true)),
 )
 
 pub shape_of-block : goal.shape_of-block
-shape_of-block c = c.loop-turns.invariant.0 ∙ c.take_step-s.auto.0
+shape_of-block c = c.loop-turns.invariant.0 ∙ c.take_step-s.auto.block
 
 pub shape_of-line : goal.shape_of-line
-shape_of-line c = c.loop-turns.invariant.1 ∙ c.take_step-s.auto.1.0
+shape_of-line c = c.loop-turns.invariant.1 ∙ c.take_step-s.auto.line
 
 pub shape_of-reply : goal.shape_of-reply
-shape_of-reply c = c.loop-turns.invariant.2 ∙ c.take_step-s.auto.1.1.1.1.1.1.0
+shape_of-reply c = c.loop-turns.invariant.2 ∙ c.take_step-s.auto.reply
 
 pub shape_of-out : goal.shape_of-out
-shape_of-out c = c.loop-turns.invariant.3 ∙ c.take_step-s.auto.1.1.1.1.1.1.1.0
+shape_of-out c = c.loop-turns.invariant.3 ∙ c.take_step-s.auto.out
 
 pub returns : goal.returns
 returns c =
     finished _ _
-    (c.loop-turns.invariant.5 _ _ (going (begin _ _ max_u64 (omega arith)) c.requires _ (c.take_step-s.ensures.made, c.take_step-s.ensures.written, c.take_step-s.ensures.read) _ (omega arith)))
+    (c.loop-turns.invariant.5 _ _ (going (begin _ _ max_u64 (omega arith)) c.requires _ (c.take_step-s.ensures.made, (c.take_step-s.ensures.written, c.take_step-s.ensures.read)) _ (omega arith)))
     (λ e v. ⊎_elim (λ x. apart (sym v ∙ x.2.left)) (λ y. ⊎_elim (λ x. apart (sym e ∙ x.1.left)) (λ x. omega (arith, x)) y) c.loop-turns-test.branch)

@@ -14,11 +14,13 @@ slice_bounds-answer_line-end-then-is_line c = simp length-take (omega (arith, c.
 pub returns-then-is_line : goal.returns-then-is_line
 returns-then-is_line c =
     let a = c.args in
-    step_made _ _ (state (whole a.j a.connect.now a.targets.now (tables_of a.ledger.now) a.ledger.now a.sent.now) a.reply.now a.out.now a.handed)
-    (sym c.is_line.ensures ∙ c.if-is_line.true) (c.answer_line-a.ensures.journal, c.answer_line-a.ensures.reply, c.answer_line-a.ensures.bytes, c.answer_line-a.ensures.place) c.next_line-s.ensures.block.1
+    let t = step_made _ _ (state (whole a.j a.connect.now a.targets.now (tables_of a.ledger.now) a.ledger.now a.sent.now) a.reply.now a.out.now a.handed)
+    (sym c.is_line.ensures ∙ c.if-is_line.true) (c.answer_line-a.ensures.journal, (c.answer_line-a.ensures.reply, (c.answer_line-a.ensures.bytes, c.answer_line-a.ensures.place))) c.next_line-s.ensures.read in
+    record { made = t.0; written = t.1.0; read = t.1.1 }
 
 pub returns : goal.returns
 returns c =
     let a = c.args in
-    step_left _ _ (state (whole a.j a.connect.now a.targets.now (tables_of a.ledger.now) a.ledger.now a.sent.now) a.reply.now a.out.now a.handed)
-    (sym c.is_line.ensures ∙ c.if-is_line.false) c.next_line-s.ensures.block.1
+    let t = step_left _ _ (state (whole a.j a.connect.now a.targets.now (tables_of a.ledger.now) a.ledger.now a.sent.now) a.reply.now a.out.now a.handed)
+    (sym c.is_line.ensures ∙ c.if-is_line.false) c.next_line-s.ensures.read in
+    record { made = t.0; written = t.1.0; read = t.1.1 }

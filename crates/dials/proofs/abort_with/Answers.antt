@@ -2,7 +2,7 @@ use Prim.Native.Nat.{◌≤◌}
 use mathlib.Core.Path.{◌≡◌, refl, ap, ◌∙◌}
 use mathlib.Core.List.{List}
 use native.Mathlib.Omega.{arith}
-use lib.ListN.{length, length-map}
+use lib.ListN.{length}
 use Rattle.kinds.specs.declared.Row.{Row}
 use Rattle.rows.specs.declared.Marks.{Marks}
 use Rattle.rows.specs.declared.Table.TheVariants.{Dials}
@@ -11,15 +11,17 @@ use Rattle.rows.specs.Words.{rows_of, laid}
 use Rattle.rows.proofs.Words.{used_is}
 use Rattle.dials.specs.Dials.{abort_with}
 use Rattle.dials.proofs.Staying.{staying_left}
-use borrow.Author.Rules.{rules}
 use Rattle.dials.proofs.abort_with.Goals as goal
 
-pub returns : goal.returns
+pub returns-clause-answer : goal.returns-clause-answer
 unfolding abort_with
-returns c =
+returns-clause-answer c = rw (c.retired_of-retired.ensures, c.closed_of-close.ensures) refl
+
+pub returns-clause-words : goal.returns-clause-words
+returns-clause-words c =
     let a = c.args in
     let w = a.l.now in
     let rs = rows_of Dials w in
-    let f64 : length a.firsts.rows ≡ 64 = simp length-map at c.well-formed.1.1.0.1.1.0.1.0.1 in
+    let f64 : length a.firsts.rows ≡ 64 = omega arith in
     let h : length rs ≤ length a.firsts.rows = omega (arith, used_is 0 w) in
-    record { answer = rw (c.retired_of-retired.ensures, c.closed_of-close.ensures) refl; words = c.retain_marked.ensures ∙ ap (λ (xs : List Row). laid Dials xs w) (ap (λ (ms : Marks). marked ms.keep rs) c.staying_of-marks.ensures ∙ staying_left a.id rs a.firsts.rows h) }
+    c.retain_marked.ensures ∙ ap (λ (xs : List Row). laid Dials xs w) (ap (λ (ms : Marks). marked ms.keep rs) c.staying_of-marks.ensures ∙ staying_left a.id rs a.firsts.rows h)

@@ -1,5 +1,4 @@
 use Rattle.dials.specs.Dials.{asked_by}
-use borrow.Author.Rules.{rules}
 use Rattle.dials.proofs.asked_by.Goals as goal
 
 pub returns-in-Relay : goal.returns-in-Relay

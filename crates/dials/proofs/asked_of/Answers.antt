@@ -1,6 +1,5 @@
 use Rattle.dials.specs.Dials.{asked_of}
 use mathlib.Core.Path.{sym}
-use borrow.Author.Rules.{rules}
 use Rattle.dials.proofs.asked_of.Goals as goal
 
 pub returns-in-Dialed : goal.returns-in-Dialed

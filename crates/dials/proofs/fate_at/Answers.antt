@@ -1,6 +1,5 @@
 use Rattle.dials.specs.Dials.{fate_at}
 use mathlib.Core.Path.{sym}
-use borrow.Author.Rules.{rules}
 use Rattle.dials.proofs.fate_at.Goals as goal
 
 pub returns-in-Dialed : goal.returns-in-Dialed

@@ -1,6 +1,5 @@
 use Rattle.dials.specs.Dials.{fate_of}
 use borrow.Author.Tests.{eq-eqb, ne_eqb}
-use borrow.Author.Rules.{rules}
 use Rattle.dials.proofs.fate_of.Goals as goal
 
 pub returns-then-attempt-id : goal.returns-then-attempt-id

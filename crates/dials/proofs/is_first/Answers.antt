@@ -1,5 +1,4 @@
 use Rattle.dials.specs.Dials.{is_first}
-use borrow.Author.Rules.{rules}
 use Rattle.dials.proofs.is_first.Goals as goal
 
 pub returns-in-At : goal.returns-in-At

@@ -1,14 +1,10 @@
-use Prim.Native.Nat.{◌≤◌, ◌-◌}
 use mathlib.Core.Path.{◌≡◌, ap, sym, ◌∙◌}
 use native.Mathlib.Omega.{arith}
-use lib.ListN.{length, get_or, length-map}
+use lib.ListN.{length, get_or}
 use Rattle.kinds.specs.declared.Row.{Row}
-use Rattle.rows.specs.declared.Table.TheVariants.{Dials}
-use Rattle.rows.specs.Words.{rows_of}
 use Rattle.dials.specs.declared.Tokens.{Tokens}
-use Rattle.dials.specs.Dials.{tokens_of, retired_of, fate_at, no_first}
-use Rattle.dials.proofs.Gathered.{Gathered, none_yet, gives, gives_none, all_given, no_token, filled_tokens}
-use borrow.Author.Rules.{rules}
+use Rattle.dials.specs.Dials.{tokens_of, fate_at, no_first}
+use Rattle.dials.proofs.Gathered.{none_yet, gives, gives_none, all_given, filled_tokens}
 use Rattle.dials.proofs.retired_of.Goals as goal
 
 pub loop-i-init : goal.loop-i-init
@@ -29,8 +25,8 @@ loop-i-smaller-in-Other c = omega arith
 
 pub loop-i-preserved-in-Other : goal.loop-i-preserved-in-Other
 loop-i-preserved-in-Other c =
-    let f64 : length c.args.t3.rows ≡ 64 = simp length-map at c.well-formed.1.1.0.1.1.0.1.0.1 in
-    let f = sym (c.fate_at-fate.ensures ∙ ap (λ (r : Row). fate_at c.args.id r (get_or c.args.t3.rows c.loop-i.i no_first)) c.row_at-row.ensures) in
+    let f64 : length c.args.firsts.rows ≡ 64 = omega arith in
+    let f = sym (c.fate_at-fate.ensures ∙ ap (λ (r : Row). fate_at c.args.id r (get_or c.args.firsts.rows c.loop-i.i no_first)) c.row_at-row.ensures) in
     (omega arith, gives_none c.loop-i.invariant.1 (omega arith) (omega arith) (simp (f, c.in-Other.is)))
 
 pub offset_bounds-tokens-m : goal.offset_bounds-tokens-m
@@ -47,8 +43,8 @@ loop-i-smaller-in-Stays c = omega arith
 
 pub loop-i-preserved-in-Stays : goal.loop-i-preserved-in-Stays
 loop-i-preserved-in-Stays c =
-    let f64 : length c.args.t3.rows ≡ 64 = simp length-map at c.well-formed.1.1.0.1.1.0.1.0.1 in
-    let f = sym (c.fate_at-fate.ensures ∙ ap (λ (r : Row). fate_at c.args.id r (get_or c.args.t3.rows c.loop-i.i no_first)) c.row_at-row.ensures) in
+    let f64 : length c.args.firsts.rows ≡ 64 = omega arith in
+    let f = sym (c.fate_at-fate.ensures ∙ ap (λ (r : Row). fate_at c.args.id r (get_or c.args.firsts.rows c.loop-i.i no_first)) c.row_at-row.ensures) in
     (omega arith, gives c.loop-i.invariant.1 (omega arith) (omega arith) (simp (f, c.in-Stays.is)) (omega arith))
 
 pub offset_bounds-tokens-m-in-Goes : goal.offset_bounds-tokens-m-in-Goes
@@ -65,8 +61,8 @@ loop-i-smaller-in-Goes c = omega arith
 
 pub loop-i-preserved-in-Goes : goal.loop-i-preserved-in-Goes
 loop-i-preserved-in-Goes c =
-    let f64 : length c.args.t3.rows ≡ 64 = simp length-map at c.well-formed.1.1.0.1.1.0.1.0.1 in
-    let f = sym (c.fate_at-fate.ensures ∙ ap (λ (r : Row). fate_at c.args.id r (get_or c.args.t3.rows c.loop-i.i no_first)) c.row_at-row.ensures) in
+    let f64 : length c.args.firsts.rows ≡ 64 = omega arith in
+    let f = sym (c.fate_at-fate.ensures ∙ ap (λ (r : Row). fate_at c.args.id r (get_or c.args.firsts.rows c.loop-i.i no_first)) c.row_at-row.ensures) in
     (omega arith, gives c.loop-i.invariant.1 (omega arith) (omega arith) (simp (f, c.in-Goes.is)) (omega arith))
 
 pub offset_bounds-tokens-m-in-Closes : goal.offset_bounds-tokens-m-in-Closes
@@ -83,11 +79,11 @@ loop-i-smaller c = omega arith
 
 pub loop-i-preserved : goal.loop-i-preserved
 loop-i-preserved c =
-    let f64 : length c.args.t3.rows ≡ 64 = simp length-map at c.well-formed.1.1.0.1.1.0.1.0.1 in
-    let f = sym (c.fate_at-fate.ensures ∙ ap (λ (r : Row). fate_at c.args.id r (get_or c.args.t3.rows c.loop-i.i no_first)) c.row_at-row.ensures) in
+    let f64 : length c.args.firsts.rows ≡ 64 = omega arith in
+    let f = sym (c.fate_at-fate.ensures ∙ ap (λ (r : Row). fate_at c.args.id r (get_or c.args.firsts.rows c.loop-i.i no_first)) c.row_at-row.ensures) in
     (omega arith, gives c.loop-i.invariant.1 (omega arith) (omega arith) (simp (f, c.in-Closes.is)) (omega arith))
 
 pub returns : goal.returns
 returns c =
-    let f64 : length c.args.t3.rows ≡ 64 = simp length-map at c.well-formed.1.1.0.1.1.0.1.0.1 in
+    let f64 : length c.args.firsts.rows ≡ 64 = omega arith in
     filled_tokens (all_given c.loop-i.invariant.1 (omega arith) (omega arith))

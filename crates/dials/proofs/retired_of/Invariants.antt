@@ -1,14 +1,8 @@
 use Prim.Native.Nat.{◌≤◌, ◌-◌}
-use mathlib.Core.Path.{◌≡◌, ap, sym, ◌∙◌}
-use native.Mathlib.Omega.{arith}
-use lib.ListN.{length, get_or, length-map}
-use Rattle.kinds.specs.declared.Row.{Row}
 use Rattle.rows.specs.declared.Table.TheVariants.{Dials}
 use Rattle.rows.specs.Words.{rows_of}
-use Rattle.dials.specs.declared.Tokens.{Tokens}
-use Rattle.dials.specs.Dials.{tokens_of, retired_of, fate_at, no_first}
-use Rattle.dials.proofs.Gathered.{Gathered, none_yet, gives, gives_none, all_given, no_token, filled_tokens}
-use borrow.Author.Rules.{rules}
+use Rattle.dials.specs.Dials.{retired_of}
+use Rattle.dials.proofs.Gathered.{Gathered, no_token}
 use Rattle.dials.proofs.retired_of.Given as goal
 
 abbrev pub invariant-loop-i : goal.invariant-loop-i

@@ -1,9 +1,8 @@
-use Prim.Native.Nat.{◌≤◌, ◌-◌}
 use mathlib.Core.Path.{◌≡◌, refl, ap, ◌∙◌}
 use mathlib.Core.Bool.{Bool, false}
-use mathlib.Core.List.{List, ◌++◌, map}
+use mathlib.Core.List.{List}
 use native.Mathlib.Omega.{arith}
-use lib.ListN.{length, get_or, take, replicate, length-map}
+use lib.ListN.{length, get_or}
 use Rattle.kinds.specs.declared.Row.{Row}
 use Rattle.rows.specs.declared.Table.TheVariants.{Dials}
 use Rattle.rows.specs.Words.{rows_of, no_row}
@@ -11,7 +10,6 @@ use Rattle.dials.specs.Dials.{staying, stays, fate_at, pairs, no_first}
 use Rattle.rows.proofs.Lists.{map_all}
 use Rattle.dials.proofs.Each.{length_pairs}
 use Rattle.dials.proofs.Staying.{stays_of, mark_more}
-use borrow.Author.Rules.{rules}
 use Rattle.dials.proofs.staying_of.Goals as goal
 
 pub loop-i-init : goal.loop-i-init
@@ -37,9 +35,9 @@ loop-i-preserved c =
     let a = c.args in
     let x = c.loop-i in
     let rs = rows_of Dials a.l.now in
-    let f64 : length a.t3.rows ≡ 64 = simp length-map at c.well-formed.1.1.0.1.1.0.1.0.1 in
-    let e : c.stays_with.result ≡ stays_of a.id (get_or rs x.i no_row, get_or a.t3.rows x.i no_first) = c.stays_with.ensures ∙ ap stays (c.fate_at.ensures ∙ ap (λ (r : Row). fate_at a.id r (get_or a.t3.rows x.i no_first)) c.row_at-row.ensures) in
-    (omega arith, rw (x.invariant.1, e) (mark_more a.id rs a.t3.rows x.i (omega arith) (omega arith) (omega arith)))
+    let f64 : length a.firsts.rows ≡ 64 = omega arith in
+    let e : c.stays_with.result ≡ stays_of a.id (get_or rs x.i no_row, get_or a.firsts.rows x.i no_first) = c.stays_with.ensures ∙ ap stays (c.fate_at.ensures ∙ ap (λ (r : Row). fate_at a.id r (get_or a.firsts.rows x.i no_first)) c.row_at-row.ensures) in
+    (omega arith, rw (x.invariant.1, e) (mark_more a.id rs a.firsts.rows x.i (omega arith) (omega arith) (omega arith)))
 
 pub returns : goal.returns
 unfolding staying
@@ -47,5 +45,5 @@ returns c =
     let a = c.args in
     let x = c.loop-i in
     let rs = rows_of Dials a.l.now in
-    let f64 : length a.t3.rows ≡ 64 = simp length-map at c.well-formed.1.1.0.1.1.0.1.0.1 in
-    ap (λ (ms : List Bool). record { keep = ms }) (x.invariant.1 ∙ map_all (stays_of a.id) false (pairs rs a.t3.rows) x.i (omega (arith, length_pairs rs a.t3.rows (omega arith))))
+    let f64 : length a.firsts.rows ≡ 64 = omega arith in
+    ap (λ (ms : List Bool). record { keep = ms }) (x.invariant.1 ∙ map_all (stays_of a.id) false (pairs rs a.firsts.rows) x.i (omega (arith, length_pairs rs a.firsts.rows (omega arith))))

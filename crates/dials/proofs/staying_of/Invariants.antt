@@ -1,17 +1,12 @@
 use Prim.Native.Nat.{◌≤◌, ◌-◌}
-use mathlib.Core.Path.{◌≡◌, refl, ap, ◌∙◌}
-use mathlib.Core.Bool.{Bool, false}
-use mathlib.Core.List.{List, ◌++◌, map}
-use native.Mathlib.Omega.{arith}
-use lib.ListN.{length, get_or, take, replicate, length-map}
-use Rattle.kinds.specs.declared.Row.{Row}
+use mathlib.Core.Path.{◌≡◌}
+use mathlib.Core.Bool.{false}
+use mathlib.Core.List.{◌++◌, map}
+use lib.ListN.{take, replicate}
 use Rattle.rows.specs.declared.Table.TheVariants.{Dials}
-use Rattle.rows.specs.Words.{rows_of, no_row}
-use Rattle.dials.specs.Dials.{staying, stays, fate_at, pairs, no_first}
-use Rattle.rows.proofs.Lists.{map_all}
-use Rattle.dials.proofs.Each.{length_pairs}
-use Rattle.dials.proofs.Staying.{stays_of, mark_more}
-use borrow.Author.Rules.{rules}
+use Rattle.rows.specs.Words.{rows_of}
+use Rattle.dials.specs.Dials.{pairs}
+use Rattle.dials.proofs.Staying.{stays_of}
 use Rattle.dials.proofs.staying_of.Given as goal
 
 abbrev pub invariant-loop-i : goal.invariant-loop-i

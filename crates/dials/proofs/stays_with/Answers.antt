@@ -1,5 +1,4 @@
 use Rattle.dials.specs.Dials.{stays}
-use borrow.Author.Rules.{rules}
 use Rattle.dials.proofs.stays_with.Goals as goal
 
 pub returns-in-Other : goal.returns-in-Other

@@ -1,6 +1,5 @@
 use Rattle.entries.specs.Entries.{dial_at}
 use mathlib.Core.Path.{sym}
-use borrow.Author.Rules.{rules}
 use Rattle.entries.proofs.dial_at.Goals as goal
 
 pub returns-in-At : goal.returns-in-At

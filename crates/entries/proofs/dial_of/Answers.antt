@@ -1,5 +1,4 @@
 use Rattle.entries.specs.Entries.{dial_of}
-use borrow.Author.Rules.{rules}
 use Rattle.entries.proofs.dial_of.Goals as goal
 
 pub returns-in-Dialed : goal.returns-in-Dialed

@@ -1,5 +1,4 @@
 use Rattle.entries.specs.Entries.{end_of}
-use borrow.Author.Rules.{rules}
 use Rattle.entries.proofs.end_of.Goals as goal
 
 pub returns-in-Window : goal.returns-in-Window

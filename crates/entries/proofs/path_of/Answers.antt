@@ -1,5 +1,4 @@
 use Rattle.entries.specs.Entries.{path_of}
-use borrow.Author.Rules.{rules}
 use Rattle.entries.proofs.path_of.Goals as goal
 
 pub returns-in-Path : goal.returns-in-Path

@@ -1,7 +1,6 @@
 use Rattle.entries.specs.Entries.{punch_end}
 use borrow.Author.Tests.{le-leb, lt-leb, lt-ltb, le-ltb}
 use mathlib.Core.Path.{sym}
-use borrow.Author.Rules.{rules}
 use Rattle.entries.proofs.punch_end.Goals as goal
 
 pub returns-then-old-until : goal.returns-then-old-until

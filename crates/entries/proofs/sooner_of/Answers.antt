@@ -1,6 +1,5 @@
 use Rattle.entries.specs.Entries.{sooner}
 use borrow.Author.Tests.{le-leb, lt-leb, lt-ltb, le-ltb}
-use borrow.Author.Rules.{rules}
 use Rattle.entries.proofs.sooner_of.Goals as goal
 
 pub returns-in_default : goal.returns-in_default

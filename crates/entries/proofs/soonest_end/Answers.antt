@@ -1,13 +1,12 @@
-use Prim.Native.Nat.{◌≤◌, ◌<◌, ◌-◌, ◌+◌}
+use Prim.Native.Nat.{◌<◌, ◌-◌, ◌+◌}
 use mathlib.Core.Path.{◌≡◌, refl, ap, sym, ◌∙◌}
 use native.Mathlib.Omega.{arith}
-use lib.ListN.{length, drop}
+use lib.ListN.{length}
 use Rattle.rows.specs.Words.{rows_of, no_row}
 use Rattle.rows.specs.declared.Table.TheVariants.{Windows}
 use Rattle.kinds.specs.Kinds.{entry_of}
-use Rattle.entries.specs.Entries.{end_of, soonest}
+use Rattle.entries.specs.Entries.{end_of}
 use Rattle.entries.proofs.Steps.{soonest_end, soonest_more}
-use borrow.Author.Rules.{rules}
 use Rattle.entries.proofs.soonest_end.Goals as goal
 
 pub loop-i-init : goal.loop-i-init

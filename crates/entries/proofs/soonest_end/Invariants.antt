@@ -1,13 +1,9 @@
-use Prim.Native.Nat.{◌≤◌, ◌<◌, ◌-◌, ◌+◌}
-use mathlib.Core.Path.{◌≡◌, refl, ap, sym, ◌∙◌}
-use native.Mathlib.Omega.{arith}
+use Prim.Native.Nat.{◌≤◌}
+use mathlib.Core.Path.{◌≡◌}
 use lib.ListN.{length, drop}
-use Rattle.rows.specs.Words.{rows_of, no_row}
+use Rattle.rows.specs.Words.{rows_of}
 use Rattle.rows.specs.declared.Table.TheVariants.{Windows}
-use Rattle.kinds.specs.Kinds.{entry_of}
-use Rattle.entries.specs.Entries.{end_of, soonest}
-use Rattle.entries.proofs.Steps.{soonest_end, soonest_more}
-use borrow.Author.Rules.{rules}
+use Rattle.entries.specs.Entries.{soonest}
 use Rattle.entries.proofs.soonest_end.Given as goal
 
 abbrev pub invariant-loop-i : goal.invariant-loop-i

@@ -1,6 +1,5 @@
 use Rattle.entries.specs.Entries.{window_open}
 use mathlib.Core.Path.{sym}
-use borrow.Author.Rules.{rules}
 use Rattle.entries.proofs.window_open.Goals as goal
 
 pub returns-in-At : goal.returns-in-At

@@ -1,5 +1,4 @@
 use borrow.Author.Tests.{lt-ltb, le-ltb}
-use borrow.Author.Rules.{rules}
 use Rattle.forms.proofs.behind_choice.Goals as goal
 
 pub returns-then-c-size : goal.returns-then-c-size

@@ -1,6 +1,5 @@
 use mathlib.Core.Path.{sym}
 use borrow.Author.Tests.{eq-eqb, ne_eqb}
-use borrow.Author.Rules.{rules}
 use Rattle.forms.proofs.bytes_words.Goals as goal
 
 pub returns-then-is_word : goal.returns-then-is_word

@@ -1,5 +1,4 @@
 use mathlib.Core.Path.{sym}
-use borrow.Author.Rules.{rules}
 use Rattle.forms.proofs.choice_length.Goals as goal
 
 pub returns-in-Choice : goal.returns-in-Choice

@@ -1,10 +1,6 @@
-use mathlib.Core.Path.{◌≡◌, refl}
-use Prim.Native.Nat.{◌≤◌, ◌-◌}
+use mathlib.Core.Path.{refl}
 use native.Mathlib.Omega.{arith}
-use lib.ListN.{length, drop}
-use Rattle.forms.specs.Forms.{split, which_word}
 use Rattle.forms.proofs.Choices.{word_fits, word_none, word_next, word_found}
-use borrow.Author.Rules.{rules}
 use Rattle.forms.proofs.choice_words.Goals as goal
 
 pub loop-k-init : goal.loop-k-init

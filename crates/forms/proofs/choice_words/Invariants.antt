@@ -1,10 +1,7 @@
-use mathlib.Core.Path.{◌≡◌, refl}
+use mathlib.Core.Path.{◌≡◌}
 use Prim.Native.Nat.{◌≤◌, ◌-◌}
-use native.Mathlib.Omega.{arith}
 use lib.ListN.{length, drop}
 use Rattle.forms.specs.Forms.{split, which_word}
-use Rattle.forms.proofs.Choices.{word_fits, word_none, word_next, word_found}
-use borrow.Author.Rules.{rules}
 use Rattle.forms.proofs.choice_words.Given as goal
 
 abbrev pub invariant-loop-k : goal.invariant-loop-k

@@ -1,6 +1,5 @@
 use mathlib.Core.Path.{sym}
 use Rattle.forms.specs.Forms.{maybe_words}
-use borrow.Author.Rules.{rules}
 use Rattle.forms.proofs.maybe_words.Goals as goal
 
 pub returns-then-is_word : goal.returns-then-is_word

@@ -6,7 +6,6 @@ use borrow.Author.Tests.{le-leb, lt-leb}
 use Rattle.text.specs.Decimal.{decimal_of}
 use Rattle.forms.specs.Forms.{pair_words}
 use Rattle.text.proofs.Printing.{rest_of}
-use borrow.Author.Rules.{rules}
 use Rattle.forms.proofs.pair_words.Goals as goal
 
 pub returns-then-is_word : goal.returns-then-is_word

@@ -1,14 +1,9 @@
-use mathlib.Core.Path.{◌≡◌, refl, ap, ◌∙◌}
-use mathlib.Core.List.{[]}
-use Prim.Native.Nat.{◌≤◌, ◌-◌}
+use mathlib.Core.Path.{refl, ap, ◌∙◌}
 use native.Mathlib.Omega.{arith}
-use lib.ListN.{length, drop, get_or}
+use lib.ListN.{length}
 use Rattle.text.proofs.Printing.{parts, laid}
-use Rattle.forms.specs.Forms.{split}
-use Rattle.forms.specs.Texts.{word_at}
 use Rattle.forms.proofs.Choices.{word_fits}
 use Rattle.forms.proofs.Print.{same, from, nothing_put, this_word, no_word, next_word}
-use borrow.Author.Rules.{rules}
 use Rattle.forms.proofs.put_choice.Goals as goal
 
 pub loop-j-init : goal.loop-j-init
@@ -27,7 +22,7 @@ pub slice_bounds-put_text-end : goal.slice_bounds-put_text-end
 slice_bounds-put_text-end c = omega (arith, word_fits c.args.choice.now c.loop-j.w c.loop-j.invariant.0 c.length_before-n.ensures)
 
 pub shape_of-out-then-j-eq0 : goal.shape_of-out-then-j-eq0
-shape_of-out-then-j-eq0 c = c.put_text.auto.1.0 ∙ ap length c.loop-j.invariant.2
+shape_of-out-then-j-eq0 c = c.put_text.auto.out ∙ ap length c.loop-j.invariant.2
 
 pub returns-then-j-eq0 : goal.returns-then-j-eq0
 returns-then-j-eq0 c = record { bytes = (parts (from c.loop-j.invariant.2 (same (this_word _ _ _ _ c.loop-j.invariant.1 c.loop-j.invariant.0 c.length_before-n.ensures c.if-j-eq0.true) (laid _ _ _ (c.put_text.ensures.bytes, c.put_text.ensures.place))))).0; place = (parts (from c.loop-j.invariant.2 (same (this_word _ _ _ _ c.loop-j.invariant.1 c.loop-j.invariant.0 c.length_before-n.ensures c.if-j-eq0.true) (laid _ _ _ (c.put_text.ensures.bytes, c.put_text.ensures.place))))).1 }

@@ -1,14 +1,9 @@
-use mathlib.Core.Path.{◌≡◌, refl, ap, ◌∙◌}
+use mathlib.Core.Path.{◌≡◌}
 use mathlib.Core.List.{[]}
 use Prim.Native.Nat.{◌≤◌, ◌-◌}
-use native.Mathlib.Omega.{arith}
 use lib.ListN.{length, drop, get_or}
-use Rattle.text.proofs.Printing.{parts, laid}
 use Rattle.forms.specs.Forms.{split}
 use Rattle.forms.specs.Texts.{word_at}
-use Rattle.forms.proofs.Choices.{word_fits}
-use Rattle.forms.proofs.Print.{same, from, nothing_put, this_word, no_word, next_word}
-use borrow.Author.Rules.{rules}
 use Rattle.forms.proofs.put_choice.Given as goal
 
 abbrev pub invariant-loop-j : goal.invariant-loop-j

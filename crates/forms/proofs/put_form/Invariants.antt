@@ -1,11 +1,7 @@
-use mathlib.Core.Path.{◌≡◌, refl, ◌∙◌}
-use Prim.Native.Nat.{◌≤◌, ◌-◌, ◌+◌}
-use native.Mathlib.Omega.{arith}
+use mathlib.Core.Path.{◌≡◌}
+use Prim.Native.Nat.{◌≤◌, ◌-◌}
 use lib.ListN.{length}
-use Rattle.text.proofs.Printing.{parts, laid}
-use Rattle.forms.proofs.Walk.{choice_fits, next_fits}
-use Rattle.forms.proofs.Print.{Written, begin, end, put_run, put_mark, run_fits, marked, no_room, literal_not, within}
-use borrow.Author.Rules.{rules}
+use Rattle.forms.proofs.Print.{Written}
 use Rattle.forms.proofs.put_form.Given as goal
 
 abbrev pub invariant-loop-f : goal.invariant-loop-f

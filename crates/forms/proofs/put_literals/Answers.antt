@@ -1,19 +1,15 @@
-use mathlib.Core.Path.{◌≡◌, refl, ◌∙◌}
-use Prim.Native.Nat.{◌≤◌, ◌-◌, ◌+◌}
+use mathlib.Core.Path.{refl, ◌∙◌}
 use native.Mathlib.Omega.{arith}
-use lib.ListN.{length, take, drop}
-use Rattle.text.proofs.Printing.{Laid, laid, laid_none, text_more}
-use Rattle.forms.specs.Forms.{literals}
+use Rattle.text.proofs.Printing.{laid, laid_none, text_more}
 use Rattle.forms.proofs.Walk.{literal}
 use Rattle.forms.proofs.Print.{none_past, past_literal, at_mark, at_end, up_to}
-use borrow.Author.Rules.{rules}
 use Rattle.forms.proofs.put_literals.Goals as goal
 
 pub loop-i-init : goal.loop-i-init
 loop-i-init c = (omega arith, none_past _, laid_none _ _, refl)
 
 pub loop-i-preserved : goal.loop-i-preserved
-loop-i-preserved c = (omega arith, past_literal _ _ c.loop-i.invariant.1 c.loop-i-test.true (literal _ c.is_literal.ensures c.kind_of-kind.ensures c.if-is_literal.true), text_more _ _ c.loop-i-test.true c.loop-i.invariant.2 (laid _ _ _ (c.put_byte-p.ensures.bytes, c.put_byte-p.ensures.place)), c.put_byte-p.auto.1.0 ∙ c.loop-i.invariant.3)
+loop-i-preserved c = (omega arith, past_literal _ _ c.loop-i.invariant.1 c.loop-i-test.true (literal _ c.is_literal.ensures c.kind_of-kind.ensures c.if-is_literal.true), text_more _ _ c.loop-i-test.true c.loop-i.invariant.2 (laid _ _ _ (c.put_byte-p.ensures.bytes, c.put_byte-p.ensures.place)), c.put_byte-p.auto.out ∙ c.loop-i.invariant.3)
 
 pub shape_of-out-else-is_literal : goal.shape_of-out-else-is_literal
 shape_of-out-else-is_literal c = c.loop-i.invariant.3

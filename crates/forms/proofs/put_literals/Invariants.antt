@@ -1,12 +1,8 @@
-use mathlib.Core.Path.{◌≡◌, refl, ◌∙◌}
+use mathlib.Core.Path.{◌≡◌}
 use Prim.Native.Nat.{◌≤◌, ◌-◌, ◌+◌}
-use native.Mathlib.Omega.{arith}
 use lib.ListN.{length, take, drop}
-use Rattle.text.proofs.Printing.{Laid, laid, laid_none, text_more}
+use Rattle.text.proofs.Printing.{Laid}
 use Rattle.forms.specs.Forms.{literals}
-use Rattle.forms.proofs.Walk.{literal}
-use Rattle.forms.proofs.Print.{none_past, past_literal, at_mark, at_end, up_to}
-use borrow.Author.Rules.{rules}
 use Rattle.forms.proofs.put_literals.Given as goal
 
 abbrev pub invariant-loop-i : goal.invariant-loop-i

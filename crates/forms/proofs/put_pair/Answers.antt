@@ -1,7 +1,6 @@
 use Rattle.text.proofs.Printing.{parts, laid, then}
 use Rattle.forms.proofs.Print.{same}
 use borrow.Author.Tests.{eq-eqb, ne_eqb}
-use borrow.Author.Rules.{rules}
 use Rattle.forms.proofs.put_pair.Goals as goal
 
 pub returns-then-given-eq0 : goal.returns-then-given-eq0

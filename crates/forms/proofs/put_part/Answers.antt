@@ -1,6 +1,5 @@
 use Rattle.text.proofs.Printing.{parts, laid}
 use Rattle.forms.proofs.Print.{no_part, some_part}
-use borrow.Author.Rules.{rules}
 use Rattle.forms.proofs.put_part.Goals as goal
 
 pub returns-then-e-s : goal.returns-then-e-s

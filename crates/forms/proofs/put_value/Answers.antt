@@ -1,6 +1,5 @@
 use Rattle.text.proofs.Printing.{parts, laid}
 use Rattle.forms.proofs.Print.{same, text_literal, text_number, text_maybe, text_pair, text_bytes, text_word}
-use borrow.Author.Rules.{rules}
 use Rattle.forms.proofs.put_value.Goals as goal
 
 pub returns-in-Literal : goal.returns-in-Literal

@@ -1,5 +1,4 @@
 use Rattle.text.proofs.Printing.{parts, byte_in, byte_out}
-use borrow.Author.Rules.{rules}
 use Rattle.forms.proofs.put_word.Goals as goal
 
 pub returns-then-n-got : goal.returns-then-n-got

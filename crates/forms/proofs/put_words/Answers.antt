@@ -1,6 +1,5 @@
 use Rattle.text.proofs.Printing.{parts, laid, then, laid_none}
 use Rattle.forms.proofs.Walk.{put}
-use borrow.Author.Rules.{rules}
 use Rattle.forms.proofs.put_words.Goals as goal
 
 pub returns-in-One : goal.returns-in-One

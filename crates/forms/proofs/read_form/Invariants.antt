@@ -1,10 +1,7 @@
-use mathlib.Core.Path.{◌≡◌, refl, sym, ◌∙◌}
-use Prim.Native.Nat.{◌≤◌, ◌-◌, ◌+◌}
-use native.Mathlib.Omega.{arith}
+use mathlib.Core.Path.{◌≡◌}
+use Prim.Native.Nat.{◌≤◌, ◌-◌}
 use lib.ListN.{length}
-use Rattle.text.proofs.Printing.{laid}
-use Rattle.forms.proofs.Walk.{Walked, begin, literal, value_fits, choice_fits, next_fits, unread, cut_off, other_byte, same_byte, bad_value, bad_stored, good_value, bytes_left, all_read}
-use borrow.Author.Rules.{rules}
+use Rattle.forms.proofs.Walk.{Walked}
 use Rattle.forms.proofs.read_form.Given as goal
 
 abbrev pub invariant-loop-f : goal.invariant-loop-f

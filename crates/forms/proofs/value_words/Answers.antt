@@ -1,6 +1,5 @@
 use Rattle.forms.specs.Forms.{words_of}
 use mathlib.Core.Path.{sym}
-use borrow.Author.Rules.{rules}
 use Rattle.forms.proofs.value_words.Goals as goal
 
 pub returns-in-Literal : goal.returns-in-Literal

@@ -4,19 +4,19 @@ use borrow.Author.Rules.{rules}
 use Rattle.initiator.proofs.read_message.Goals as goal
 
 pub shape_of-out-in-Connect : goal.shape_of-out-in-Connect
-shape_of-out-in-Connect c = c.decode.auto.1.0
+shape_of-out-in-Connect c = c.decode.auto.out
 
 pub returns-in-Connect : goal.returns-in-Connect
 returns-in-Connect c = record { answer = is_connect c.decode.ensures.answer c.in-Message.is c.in-Connect.is; stored = c.decode.ensures.stored }
 
 pub shape_of-out-in-Sync : goal.shape_of-out-in-Sync
-shape_of-out-in-Sync c = c.decode.auto.1.0
+shape_of-out-in-Sync c = c.decode.auto.out
 
 pub returns-in-Sync : goal.returns-in-Sync
 returns-in-Sync c = record { answer = is_sync c.decode.ensures.answer c.in-Message.is c.in-Sync.is; stored = c.decode.ensures.stored }
 
 pub shape_of-out-in-Refused : goal.shape_of-out-in-Refused
-shape_of-out-in-Refused c = c.decode.auto.1.0
+shape_of-out-in-Refused c = c.decode.auto.out
 
 pub returns-in-Refused : goal.returns-in-Refused
 returns-in-Refused c = record { answer = is_refused c.decode.ensures.answer c.in-Refused.is; stored = c.decode.ensures.stored }

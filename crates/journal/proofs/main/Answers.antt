@@ -8,4 +8,4 @@ use borrow.Author.Rules.{rules}
 use Rattle.journal.proofs.main.Goals as goal
 
 pub replay-e-requires : goal.replay-e-requires
-replay-e-requires c = (zeros_long longest (omega arith), omega (arith, c.large_buffer-out.ensures), refl, c.blank-connect.ensures, ap (λ (z : Chosen). z.bytes) c.empty-none.ensures, c.blank-sent.ensures, c.empty-ledger.ensures.words, c.empty-ledger.ensures.tables)
+replay-e-requires c = (zeros_long longest (omega arith), omega (arith, zeros_long 65536 (omega arith)), refl, c.blank-connect.ensures, ap (λ (z : Chosen). z.bytes) c.empty-none.ensures, c.blank-sent.ensures, c.empty-ledger.ensures.words, c.empty-ledger.ensures.tables)

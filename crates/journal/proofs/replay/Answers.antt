@@ -13,26 +13,32 @@ use Rattle.journal.proofs.replay.Goals as goal
 
 pub returns-then-s : goal.returns-then-s
 returns-then-s c =
-    record { bound = search rules; replayed = unread_first _ _ c.requires.2 c.requires.1 (λ (s : Numbers). whole s c.args.connect.now c.args.targets.now (tables_of c.args.ledger.now) c.args.ledger.now c.args.sent.now) (blank_lent c.requires.3 c.requires.4 c.requires.5 c.requires.6 c.requires.7) c.next_line-s.ensures.block.1 c.requires.0 c.if-s.true }
+    record { bound = search rules; replayed = unread_first _ _ c.requires.2 c.requires.1 (λ (s : Numbers). whole s c.args.connect.now c.args.targets.now (tables_of c.args.ledger.now) c.args.ledger.now c.args.sent.now) (blank_lent c.requires.3 c.requires.4 c.requires.5 c.requires.6 c.requires.7) c.next_line-s.ensures.read c.requires.0 c.if-s.true }
 
 pub slice_bounds-open_journal-end-2 : goal.slice_bounds-open_journal-end-2
 slice_bounds-open_journal-end-2 c = simp length-take (omega (arith, c.next_line-s.ensures.used))
 
 pub run-requires : goal.run-requires
-run-requires c = (omega (arith, c.requires.0, c.next_line-s.auto.1), omega (arith, c.requires.1, c.open_journal-o.auto))
+run-requires c = (omega (arith, c.requires.0, c.next_line-s.auto.line), omega (arith, c.requires.1, c.open_journal-o.auto.out))
 
 pub shape_of-block-then-o : goal.shape_of-block-then-o
-shape_of-block-then-o c = c.run.auto.0 ∙ c.next_line-s.auto.0
+shape_of-block-then-o c = c.run.auto.block ∙ c.next_line-s.auto.block
 
 pub shape_of-line-then-o : goal.shape_of-line-then-o
-shape_of-line-then-o c = c.run.auto.1.0 ∙ c.next_line-s.auto.1.0
+shape_of-line-then-o c = c.run.auto.line ∙ c.next_line-s.auto.line
 
 pub returns-then-o : goal.returns-then-o
 returns-then-o c =
-    record { bound = omega (arith, c.run.ensures.bound, c.open_journal-o.auto); replayed = good_first _ _ c.requires.2 c.requires.1 (λ (s : Numbers). whole s c.args.connect.now c.args.targets.now (tables_of c.args.ledger.now) c.args.ledger.now c.args.sent.now) (blank_lent c.requires.3 c.requires.4 c.requires.5 c.requires.6 c.requires.7) c.next_line-s.ensures.block.1 c.requires.0 (sym c.open_journal-o.ensures.good ∙ c.if-o.true)
-      (ap (λ (s : Numbers). whole s c.args.connect.now c.args.targets.now (tables_of c.args.ledger.now) c.args.ledger.now c.args.sent.now) c.open_journal-o.ensures.state.0 ∙ blank_lent c.requires.3 c.requires.4 c.requires.5 c.requires.6 c.requires.7 _) c.open_journal-o.ensures.state.1.0 c.run.ensures.ran }
+    record {
+      bound = omega (arith, c.run.ensures.bound, c.open_journal-o.auto.out);
+      replayed = good_first _ _ c.requires.2 c.requires.1 (λ (s : Numbers). whole s c.args.connect.now c.args.targets.now (tables_of c.args.ledger.now) c.args.ledger.now c.args.sent.now) (blank_lent c.requires.3 c.requires.4 c.requires.5 c.requires.6 c.requires.7) c.next_line-s.ensures.read c.requires.0 (sym c.open_journal-o.ensures.good ∙ c.if-o.true)
+          (ap (λ (s : Numbers). whole s c.args.connect.now c.args.targets.now (tables_of c.args.ledger.now) c.args.ledger.now c.args.sent.now) c.open_journal-o.ensures.state ∙ blank_lent c.requires.3 c.requires.4 c.requires.5 c.requires.6 c.requires.7 _) c.open_journal-o.ensures.bytes c.run.ensures.ran;
+    }
 
 pub returns : goal.returns
 returns c =
-    record { bound = opened_within _ _ c.open_journal-o.ensures.state.1.1; replayed = refused_first _ _ c.requires.2 c.requires.1 (λ (s : Numbers). whole s c.args.connect.now c.args.targets.now (tables_of c.args.ledger.now) c.args.ledger.now c.args.sent.now) (blank_lent c.requires.3 c.requires.4 c.requires.5 c.requires.6 c.requires.7) c.next_line-s.ensures.block.1 c.requires.0 c.if-s.false (sym c.open_journal-o.ensures.good ∙ c.if-o.false)
-      c.open_journal-o.ensures.state.1.0 c.open_journal-o.ensures.state.1.1 }
+    record {
+      bound = opened_within _ _ c.open_journal-o.ensures.place;
+      replayed = refused_first _ _ c.requires.2 c.requires.1 (λ (s : Numbers). whole s c.args.connect.now c.args.targets.now (tables_of c.args.ledger.now) c.args.ledger.now c.args.sent.now) (blank_lent c.requires.3 c.requires.4 c.requires.5 c.requires.6 c.requires.7) c.next_line-s.ensures.read c.requires.0 c.if-s.false (sym c.open_journal-o.ensures.good ∙ c.if-o.false)
+          c.open_journal-o.ensures.bytes c.open_journal-o.ensures.place;
+    }

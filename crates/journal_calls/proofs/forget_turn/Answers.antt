@@ -2,4 +2,9 @@ use borrow.Author.Rules.{rules}
 use Rattle.journal_calls.proofs.forget_turn.Goals as goal
 
 pub returns : goal.returns
-returns c = (c.say.ensures, c.forget.ensures.tables)
+returns c =
+    record {
+      turn = c.say.ensures;
+      tables = c.forget.ensures.tables;
+      words = c.forget.ensures.words;
+    }

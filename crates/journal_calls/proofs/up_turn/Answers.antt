@@ -5,4 +5,11 @@ use borrow.Author.Rules.{rules}
 use Rattle.journal_calls.proofs.up_turn.Goals as goal
 
 pub returns : goal.returns
-returns c = (c.settle.ensures ∙ ap (λ (z : Decision). settled_in c.args.j z z.outcome) c.on_connection_established-d.ensures.answer, c.on_connection_established-d.ensures.connect)
+returns c =
+    record {
+      turn = c.settle.ensures ∙ ap (λ (z : Decision). settled_in c.args.j z z.outcome) c.on_connection_established-d.ensures.answer;
+      connect = c.on_connection_established-d.ensures.connect;
+      sent = c.on_connection_established-d.ensures.sent;
+      tables = c.on_connection_established-d.ensures.tables;
+      words = c.on_connection_established-d.ensures.words;
+    }

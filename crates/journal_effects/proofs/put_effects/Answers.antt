@@ -13,11 +13,21 @@ shape_of-out-then-is_empty c = length_kept (laid _ _ _ (c.put_none.ensures.bytes
 
 pub returns-then-is_empty : goal.returns-then-is_empty
 unfolding effects_text
-returns-then-is_empty c = simp (sym c.is_empty.ensures, c.if-is_empty.true) (c.put_none.ensures.bytes, (c.put_none.ensures.place, fits_four (short (is_none _ (omega (arith, c.ranges.n))))))
+returns-then-is_empty c =
+    record {
+      bytes = simp (sym c.is_empty.ensures, c.if-is_empty.true) (c.put_none.ensures.bytes);
+      place = simp (sym c.is_empty.ensures, c.if-is_empty.true) (c.put_none.ensures.place);
+      short = simp (sym c.is_empty.ensures, c.if-is_empty.true) (fits_four (short (is_none _ (omega (arith, c.ranges.n)))));
+    }
 
 pub shape_of-out : goal.shape_of-out
-shape_of-out c = length_kept (laid _ _ _ (c.put_lines.ensures.bytes, c.put_lines.ensures.place.0))
+shape_of-out c = length_kept (laid _ _ _ (c.put_lines.ensures.bytes, c.put_lines.ensures.place))
 
 pub returns : goal.returns
 unfolding effects_text
-returns c = simp (sym c.is_empty.ensures, c.if-is_empty.false) (c.put_lines.ensures.bytes, c.put_lines.ensures.place, c.put_lines.ensures.short)
+returns c =
+    record {
+      bytes = simp (sym c.is_empty.ensures, c.if-is_empty.false) (c.put_lines.ensures.bytes);
+      place = simp (sym c.is_empty.ensures, c.if-is_empty.false) (c.put_lines.ensures.place);
+      short = simp (sym c.is_empty.ensures, c.if-is_empty.false) (c.put_lines.ensures.short);
+    }

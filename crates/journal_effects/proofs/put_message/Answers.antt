@@ -10,7 +10,11 @@ pub shape_of-out-then-bytes-size : goal.shape_of-out-then-bytes-size
 shape_of-out-then-bytes-size c = length_kept (laid _ _ _ (c.put_send.ensures.bytes, c.put_send.ensures.place))
 
 pub returns-then-bytes-size : goal.returns-then-bytes-size
-returns-then-bytes-size c = rw (taken_whole _ c.least-size.ensures c.if-bytes-size.true) (c.put_send.ensures.bytes, c.put_send.ensures.place)
+returns-then-bytes-size c =
+    record {
+      bytes = rw (taken_whole _ c.least-size.ensures c.if-bytes-size.true) (c.put_send.ensures.bytes);
+      place = rw (taken_whole _ c.least-size.ensures c.if-bytes-size.true) (c.put_send.ensures.place);
+    }
 
 pub slice_bounds-put_send-end : goal.slice_bounds-put_send-end
 slice_bounds-put_send-end c = simp length-take (omega arith)

@@ -10,7 +10,11 @@ pub shape_of-out-then-bytes-size : goal.shape_of-out-then-bytes-size
 shape_of-out-then-bytes-size c = length_kept (laid _ _ _ (c.put_burst.ensures.bytes, c.put_burst.ensures.place))
 
 pub returns-then-bytes-size : goal.returns-then-bytes-size
-returns-then-bytes-size c = rw (taken_whole _ c.least-size.ensures c.if-bytes-size.true) (c.put_burst.ensures.bytes, c.put_burst.ensures.place)
+returns-then-bytes-size c =
+    record {
+      bytes = rw (taken_whole _ c.least-size.ensures c.if-bytes-size.true) (c.put_burst.ensures.bytes);
+      place = rw (taken_whole _ c.least-size.ensures c.if-bytes-size.true) (c.put_burst.ensures.place);
+    }
 
 pub slice_bounds-put_burst-end : goal.slice_bounds-put_burst-end
 slice_bounds-put_burst-end c = simp length-take (omega arith)

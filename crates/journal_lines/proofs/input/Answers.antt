@@ -1,5 +1,4 @@
 use Rattle.journal_lines.proofs.Made.{input_made, input_unmade}
-use borrow.Author.Rules.{rules}
 use Rattle.journal_lines.proofs.input.Goals as goal
 
 pub returns-then-may_have_bytes : goal.returns-then-may_have_bytes

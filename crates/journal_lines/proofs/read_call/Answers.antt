@@ -1,7 +1,6 @@
 use mathlib.Core.Path.{sym, ◌∙◌}
 use native.Mathlib.Omega.{arith}
 use Rattle.journal_lines.proofs.Made.{tick_read, input_read, up_read, attribute_read, dial_read, forget_read, down_read, start_read, wrote_read, none_read}
-use borrow.Author.Rules.{rules}
 use Rattle.journal_lines.proofs.read_call.Goals as goal
 
 pub returns-then-read_form : goal.returns-then-read_form

@@ -1,7 +1,6 @@
 use mathlib.Core.Path.{sym, ◌∙◌}
 use native.Mathlib.Omega.{arith}
 use Rattle.journal_lines.proofs.Made.{settings_read, settings_unread}
-use borrow.Author.Rules.{rules}
 use Rattle.journal_lines.proofs.read_settings.Goals as goal
 
 pub returns-then-read_form : goal.returns-then-read_form

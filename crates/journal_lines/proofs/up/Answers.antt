@@ -1,4 +1,3 @@
-use borrow.Author.Rules.{rules}
 use Rattle.journal_lines.proofs.up.Goals as goal
 
 pub returns : goal.returns

@@ -6,10 +6,18 @@ pub shape_of-out-in-At : goal.shape_of-out-in-At
 shape_of-out-in-At c = length_kept (laid _ _ _ (c.put_attribution.ensures.bytes, c.put_attribution.ensures.place))
 
 pub returns-in-At : goal.returns-in-At
-returns-in-At c = rw c.in-At.is (c.put_attribution.ensures.bytes, c.put_attribution.ensures.place)
+returns-in-At c =
+    record {
+      bytes = rw c.in-At.is (c.put_attribution.ensures.bytes);
+      place = rw c.in-At.is (c.put_attribution.ensures.place);
+    }
 
 pub shape_of-out-in-None : goal.shape_of-out-in-None
 shape_of-out-in-None c = length_kept (laid _ _ _ (c.put_owner.ensures.bytes, c.put_owner.ensures.place))
 
 pub returns-in-None : goal.returns-in-None
-returns-in-None c = rw c.in-None.is (c.put_owner.ensures.bytes, c.put_owner.ensures.place)
+returns-in-None c =
+    record {
+      bytes = rw c.in-None.is (c.put_owner.ensures.bytes);
+      place = rw c.in-None.is (c.put_owner.ensures.place);
+    }

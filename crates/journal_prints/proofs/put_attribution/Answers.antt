@@ -6,4 +6,8 @@ pub shape_of-out : goal.shape_of-out
 shape_of-out c = length_kept (laid _ _ _ (c.put_owner.ensures.bytes, c.put_owner.ensures.place))
 
 pub returns : goal.returns
-returns c = rw c.path_place-place.ensures at (c.put_owner.ensures.bytes, c.put_owner.ensures.place)
+returns c =
+    record {
+      bytes = rw c.path_place-place.ensures at (c.put_owner.ensures.bytes);
+      place = rw c.path_place-place.ensures at (c.put_owner.ensures.place);
+    }

@@ -8,8 +8,20 @@ use Rattle.journal_text.proofs.open_journal.Goals as goal
 
 pub returns-in-Settings : goal.returns-in-Settings
 unfolding opened
-returns-in-Settings c = (simp (c.in-Settings.is, sym c.read_first-first.ensures), (c.new_journal-state.ensures ∙ ap (λ (x : Settings). state_of (new_journal x)) (c.settings_in-settings.ensures ∙ ap settings_in c.read_first-first.ensures), simp (c.in-Settings.is, sym c.read_first-first.ensures) (parts (laid_none _ _))))
+returns-in-Settings c =
+    record {
+      good = simp (c.in-Settings.is, sym c.read_first-first.ensures);
+      state = c.new_journal-state.ensures ∙ ap (λ (x : Settings). state_of (new_journal x)) (c.settings_in-settings.ensures ∙ ap settings_in c.read_first-first.ensures);
+      bytes = (simp (c.in-Settings.is, sym c.read_first-first.ensures) (parts (laid_none _ _))).0;
+      place = (simp (c.in-Settings.is, sym c.read_first-first.ensures) (parts (laid_none _ _))).1;
+    }
 
 pub returns-in-Unknown : goal.returns-in-Unknown
 unfolding opened
-returns-in-Unknown c = (simp (c.in-Unknown.is, sym c.read_first-first.ensures), (c.new_journal-state.ensures ∙ ap (λ (x : Settings). state_of (new_journal x)) (c.settings_in-settings.ensures ∙ ap settings_in c.read_first-first.ensures), simp (c.in-Unknown.is, sym c.read_first-first.ensures) (c.put_refused-p.ensures.bytes, c.put_refused-p.ensures.place)))
+returns-in-Unknown c =
+    record {
+      good = simp (c.in-Unknown.is, sym c.read_first-first.ensures);
+      state = c.new_journal-state.ensures ∙ ap (λ (x : Settings). state_of (new_journal x)) (c.settings_in-settings.ensures ∙ ap settings_in c.read_first-first.ensures);
+      bytes = (simp (c.in-Unknown.is, sym c.read_first-first.ensures) (c.put_refused-p.ensures.bytes, c.put_refused-p.ensures.place)).0;
+      place = (simp (c.in-Unknown.is, sym c.read_first-first.ensures) (c.put_refused-p.ensures.bytes, c.put_refused-p.ensures.place)).1;
+    }

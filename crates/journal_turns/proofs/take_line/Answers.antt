@@ -10,7 +10,11 @@ use Rattle.journal_turns.proofs.take_line.Goals as goal
 
 pub returns-then-line-lt-LONGEST : goal.returns-then-line-lt-LONGEST
 unfolding counted read line_turn
-returns-then-line-lt-LONGEST c = simp (sym c.read_call-call.ensures, lt-ltb _ _ c.if-line-lt-LONGEST.true, c.if-ended.true, sym c.saturating_add.ensures) (c.take_call.ensures.turn, c.take_call.ensures.reply)
+returns-then-line-lt-LONGEST c =
+    record {
+      turn = simp (sym c.read_call-call.ensures, lt-ltb _ _ c.if-line-lt-LONGEST.true, c.if-ended.true, sym c.saturating_add.ensures) (c.take_call.ensures.turn);
+      reply = simp (sym c.read_call-call.ensures, lt-ltb _ _ c.if-line-lt-LONGEST.true, c.if-ended.true, sym c.saturating_add.ensures) (c.take_call.ensures.reply);
+    }
 
 pub returns-then-ended : goal.returns-then-ended
 returns-then-ended c = record { turn = (unread_line c.args.j c.args.connect.now c.args.targets.now c.args.ledger.now c.args.sent.now c.args.reply.now c.args.line.now c.args.ended c.saturating_add.ensures (both_false c.if-ended.true (le-ltb _ _ c.if-line-lt-LONGEST.false)) c.say.ensures).0; reply = (unread_line c.args.j c.args.connect.now c.args.targets.now c.args.ledger.now c.args.sent.now c.args.reply.now c.args.line.now c.args.ended c.saturating_add.ensures (both_false c.if-ended.true (le-ltb _ _ c.if-line-lt-LONGEST.false)) c.say.ensures).1 }

@@ -18,7 +18,13 @@ slice_bounds-tick_turn-end c =
 pub returns-then-line-lt-SHORT : goal.returns-then-line-lt-SHORT
 returns-then-line-lt-SHORT c =
     let a = c.args in
-    simp (sym c.host_at-host.ensures, sym (whole a.line.now _ a.own.start a.own.end 512 (c.read_digits-m.ensures.bytes, c.read_digits-m.ensures.place) c.few_zeros-few.ensures c.if-line-lt-SHORT.true)) (c.tick_turn.ensures.turn, c.tick_turn.ensures.connect, c.tick_turn.ensures.sent, c.tick_turn.ensures.tables, c.tick_turn.ensures.words)
+    record {
+      turn = simp (sym c.host_at-host.ensures, sym (whole a.line.now _ a.own.start a.own.end 512 (c.read_digits-m.ensures.bytes, c.read_digits-m.ensures.place) c.few_zeros-few.ensures c.if-line-lt-SHORT.true)) (c.tick_turn.ensures.turn);
+      connect = simp (sym c.host_at-host.ensures, sym (whole a.line.now _ a.own.start a.own.end 512 (c.read_digits-m.ensures.bytes, c.read_digits-m.ensures.place) c.few_zeros-few.ensures c.if-line-lt-SHORT.true)) (c.tick_turn.ensures.connect);
+      sent = simp (sym c.host_at-host.ensures, sym (whole a.line.now _ a.own.start a.own.end 512 (c.read_digits-m.ensures.bytes, c.read_digits-m.ensures.place) c.few_zeros-few.ensures c.if-line-lt-SHORT.true)) (c.tick_turn.ensures.sent);
+      tables = simp (sym c.host_at-host.ensures, sym (whole a.line.now _ a.own.start a.own.end 512 (c.read_digits-m.ensures.bytes, c.read_digits-m.ensures.place) c.few_zeros-few.ensures c.if-line-lt-SHORT.true)) (c.tick_turn.ensures.tables);
+      words = simp (sym c.host_at-host.ensures, sym (whole a.line.now _ a.own.start a.own.end 512 (c.read_digits-m.ensures.bytes, c.read_digits-m.ensures.place) c.few_zeros-few.ensures c.if-line-lt-SHORT.true)) (c.tick_turn.ensures.words);
+    }
 
 pub slice_bounds-list-end : goal.slice_bounds-list-end
 slice_bounds-list-end c =
@@ -33,4 +39,10 @@ slice_bounds-tick_turn-end-2 c =
 pub returns : goal.returns
 returns c =
     let a = c.args in
-    simp (sym c.host_at-host.ensures, sym (whole a.line.now _ a.own.start a.own.end 16384 (c.read_digits-n.ensures.bytes, c.read_digits-n.ensures.place) c.zeros-list.ensures c.requires)) (c.tick_turn-2.ensures.turn, c.tick_turn-2.ensures.connect, c.tick_turn-2.ensures.sent, c.tick_turn-2.ensures.tables, c.tick_turn-2.ensures.words)
+    record {
+      turn = simp (sym c.host_at-host.ensures, sym (whole a.line.now _ a.own.start a.own.end 16384 (c.read_digits-n.ensures.bytes, c.read_digits-n.ensures.place) c.zeros-list.ensures c.requires)) (c.tick_turn-2.ensures.turn);
+      connect = simp (sym c.host_at-host.ensures, sym (whole a.line.now _ a.own.start a.own.end 16384 (c.read_digits-n.ensures.bytes, c.read_digits-n.ensures.place) c.zeros-list.ensures c.requires)) (c.tick_turn-2.ensures.connect);
+      sent = simp (sym c.host_at-host.ensures, sym (whole a.line.now _ a.own.start a.own.end 16384 (c.read_digits-n.ensures.bytes, c.read_digits-n.ensures.place) c.zeros-list.ensures c.requires)) (c.tick_turn-2.ensures.sent);
+      tables = simp (sym c.host_at-host.ensures, sym (whole a.line.now _ a.own.start a.own.end 16384 (c.read_digits-n.ensures.bytes, c.read_digits-n.ensures.place) c.zeros-list.ensures c.requires)) (c.tick_turn-2.ensures.tables);
+      words = simp (sym c.host_at-host.ensures, sym (whole a.line.now _ a.own.start a.own.end 16384 (c.read_digits-n.ensures.bytes, c.read_digits-n.ensures.place) c.zeros-list.ensures c.requires)) (c.tick_turn-2.ensures.words);
+    }

@@ -10,7 +10,6 @@ use Rattle.dials.specs.declared.Dropped.{Dropped}
 use Rattle.ledger.proofs.Laws.{dials_tables, dials_words}
 use Rattle.dials.proofs.Staying.{left_≤}
 use Rattle.rows.proofs.Words.{used_is}
-use borrow.Author.Rules.{rules}
 use Rattle.ledger.proofs.abort_with.Goals as goal
 
 pub returns : goal.returns
@@ -19,7 +18,8 @@ returns c =
     let a = c.args in
     let w = a.l.now in
     let h = c.known.ensures in
-    let e = (c.abort_with.ensures.answer, c.abort_with.ensures.words) in
     let rs = each (left_of a.id) (pairs (rows_of Dials w) a.firsts.rows) in
     let k : length rs ≤ 64 = omega (arith, left_≤ a.id (rows_of Dials w) a.firsts.rows, used_is 0 w) in
-    (ap (λ (d : Dropped). d.retired) e.0, (ap (λ (d : Dropped). d.close) e.0, (ap tables_of e.1 ∙ dials_tables w h rs k, e.1 ∙ dials_words w h rs k)))
+    let e = c.abort_with.ensures.answer in
+    let s = c.abort_with.ensures.words in
+    record { retired = ap (λ (d : Dropped). d.retired) e; close = ap (λ (d : Dropped). d.close) e; tables = ap tables_of s ∙ dials_tables w h rs k; words = s ∙ dials_words w h rs k }

@@ -1,6 +1,5 @@
 use mathlib.Core.Path.{ap}
 use Rattle.ledger.specs.Ledger.{empty_ledger, tables_of}
-use borrow.Author.Rules.{rules}
 use Rattle.ledger.proofs.empty.Goals as goal
 
 pub returns : goal.returns

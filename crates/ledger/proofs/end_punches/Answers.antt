@@ -2,7 +2,6 @@ use Rattle.rows.specs.declared.Keep.TheVariants.{Other}
 use Rattle.rows.specs.Rows.{keeps_row}
 use Rattle.ledger.specs.Ledger.{end_punches}
 use Rattle.ledger.proofs.Laws.{windows_such}
-use borrow.Author.Rules.{rules}
 use Rattle.ledger.proofs.end_punches.Goals as goal
 
 pub returns : goal.returns

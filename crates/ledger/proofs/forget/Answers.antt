@@ -9,7 +9,6 @@ use Rattle.rows.specs.Rows.{keeps_row}
 use Rattle.rows.specs.Words.{rows_of, start_of}
 use Rattle.ledger.specs.Ledger.{forgotten, tables_of}
 use Rattle.ledger.proofs.Laws.{such_64, dials_stay, both_tables, both_words}
-use borrow.Author.Rules.{rules}
 use Rattle.rows.specs.Words as words
 use Rattle.ledger.proofs.forget.Goals as goal
 
@@ -25,4 +24,4 @@ returns c =
     let k = such_64 w h p (start_of Paths) in
     let m = such_64 w h p 0 in
     let e = c.remove-2.ensures ∙ ap (λ (ws : List ℕ). words.laid Dials (such p (rows_of Dials ws)) ws) c.remove.ensures ∙ ap (λ (xs : List Row). words.laid Dials (such p xs) (words.laid Paths rs w)) (dials_stay w h rs k) in
-    (c.path_at-path.ensures, (ap tables_of e ∙ both_tables w h rs k qs m, e ∙ both_words w h rs k qs m))
+    record { answer = c.path_at-path.ensures; tables = ap tables_of e ∙ both_tables w h rs k qs m; words = e ∙ both_words w h rs k qs m }

@@ -1,7 +1,6 @@
 use mathlib.Core.Path.{ap, ◌∙◌}
 use Rattle.ledger.specs.Ledger.{is_punched}
 use Rattle.path.specs.Judged.{punched_at}
-use borrow.Author.Rules.{rules}
 use Rattle.ledger.proofs.is_punched.Goals as goal
 
 pub returns : goal.returns

@@ -2,7 +2,6 @@ use Prim.Native.Nat.{ℕ}
 use mathlib.Core.Path.{ap}
 use Rattle.ledger.specs.Ledger.{is_quiet}
 use lib.Dec.{eqb}
-use borrow.Author.Rules.{rules}
 use Rattle.ledger.proofs.is_quiet.Goals as goal
 
 pub returns : goal.returns

@@ -1,6 +1,5 @@
 use mathlib.Core.Path.{refl, ◌∙◌}
 use Rattle.ledger.specs.Ledger.{judged_by}
-use borrow.Author.Rules.{rules}
 use Rattle.ledger.proofs.judge.Goals as goal
 
 pub returns : goal.returns

@@ -1,5 +1,4 @@
 use Rattle.ledger.specs.Ledger.{next_deadline}
-use borrow.Author.Rules.{rules}
 use Rattle.ledger.proofs.next_deadline.Goals as goal
 
 pub returns : goal.returns

@@ -2,7 +2,6 @@ use Rattle.rows.specs.declared.Keep.TheVariants.{Lasting}
 use Rattle.rows.specs.Rows.{keeps_row}
 use Rattle.ledger.specs.Ledger.{ticked}
 use Rattle.ledger.proofs.Laws.{windows_such}
-use borrow.Author.Rules.{rules}
 use Rattle.ledger.proofs.on_tick.Goals as goal
 
 pub returns : goal.returns

@@ -1,5 +1,4 @@
 use Rattle.ledger.specs.Ledger.{refuses_punches}
-use borrow.Author.Rules.{rules}
 use Rattle.ledger.proofs.refuses_punches.Goals as goal
 
 pub returns : goal.returns

@@ -1,7 +1,6 @@
 use mathlib.Core.Path.{ap, ◌∙◌}
 use Rattle.ledger.specs.Ledger.{replaced_by}
 use Rattle.path.specs.Judged.{upgrade_of}
-use borrow.Author.Rules.{rules}
 use Rattle.ledger.proofs.replaced.Goals as goal
 
 pub returns : goal.returns

@@ -16,9 +16,21 @@ slice_bounds-respond-end c = simp length-take (omega (arith, within _ _ _ c.byte
 pub returns-then-c : goal.returns-then-c
 returns-then-c c =
     let t = as_turned (found_turn _ _ _ c.call_of-c.ensures c.if-c.true c.bytes_in-b.ensures) c.respond-said.ensures.tables in
-    (found_as _ _ c.call_of-c.ensures c.if-c.true, (t.0, (t.1, parts (renamed (found_text _ _ _ c.call_of-c.ensures c.if-c.true c.bytes_in-b.ensures c.respond-said.ensures.said) (laid _ _ _ (c.put_said-end.ensures.bytes, c.put_said-end.ensures.place))))))
+    record {
+      found = found_as _ _ c.call_of-c.ensures c.if-c.true;
+      tables = t.0;
+      words = t.1;
+      bytes = (parts (renamed (found_text _ _ _ c.call_of-c.ensures c.if-c.true c.bytes_in-b.ensures c.respond-said.ensures.said) (laid _ _ _ (c.put_said-end.ensures.bytes, c.put_said-end.ensures.place)))).0;
+      place = (parts (renamed (found_text _ _ _ c.call_of-c.ensures c.if-c.true c.bytes_in-b.ensures c.respond-said.ensures.said) (laid _ _ _ (c.put_said-end.ensures.bytes, c.put_said-end.ensures.place)))).1;
+    }
 
 pub returns : goal.returns
 returns c =
     let t = none_turn _ _ _ c.call_of-c.ensures c.if-c.false in
-    (found_as _ _ c.call_of-c.ensures c.if-c.false, (t.0, (t.1, parts (renamed (none_text _ _ _ c.call_of-c.ensures c.if-c.false) (laid_none _ 0)))))
+    record {
+      found = found_as _ _ c.call_of-c.ensures c.if-c.false;
+      tables = t.0;
+      words = t.1;
+      bytes = (parts (renamed (none_text _ _ _ c.call_of-c.ensures c.if-c.false) (laid_none _ 0))).0;
+      place = (parts (renamed (none_text _ _ _ c.call_of-c.ensures c.if-c.false) (laid_none _ 0))).1;
+    }

@@ -1,7 +1,6 @@
 use mathlib.Core.Path.{refl}
 use Rattle.line_program.specs.Reads.{left, has_line}
 use Rattle.line_program.proofs.HandsOver.{kept_none, kept_all, over_all, over_some}
-use borrow.Author.Rules.{rules}
 use Rattle.line_program.proofs.hand_over.Goals as goal
 
 pub returns-then-waiting-eq0 : goal.returns-then-waiting-eq0

@@ -1,5 +1,4 @@
 use Rattle.line_program.proofs.GoingOn.{none_left, tested}
-use borrow.Author.Rules.{rules}
 use Rattle.line_program.proofs.has_line.Goals as goal
 
 pub returns-then-stop-from : goal.returns-then-stop-from

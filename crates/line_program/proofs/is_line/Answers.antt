@@ -1,4 +1,3 @@
-use borrow.Author.Rules.{rules}
 use Rattle.line_program.proofs.is_line.Goals as goal
 
 pub returns : goal.returns

@@ -1,5 +1,4 @@
 use mathlib.Core.Path.{sym}
-use borrow.Author.Rules.{rules}
 use Rattle.line_program.proofs.may_stay.Goals as goal
 
 pub returns-then-has_line : goal.returns-then-has_line

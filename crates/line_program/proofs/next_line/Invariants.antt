@@ -1,11 +1,8 @@
-use mathlib.Core.Path.{◌≡◌, refl, sym, ◌∙◌}
+use mathlib.Core.Path.{◌≡◌}
 use Prim.Native.Nat.{◌-◌, ◌≤◌}
 use lib.ListN.{length}
 use Rattle.line_program.specs.Reads.{left, Turned}
 use Rattle.prelude.specs.Numbers.{max_u64}
-use Rattle.line_program.proofs.GoingOn.{goes_on, begun, not_yet, yet, apart}
-use native.Mathlib.Omega.{arith}
-use borrow.Author.Rules.{rules}
 use Rattle.line_program.proofs.next_line.Given as goal
 
 abbrev pub invariant-loop-turns : goal.invariant-loop-turns

@@ -1,7 +1,6 @@
 use native.Mathlib.Omega.{arith}
 use Rattle.text.proofs.Printing.{laid}
 use Rattle.lines.proofs.Gathering.{ends_within, ended, goes_on, nothing}
-use borrow.Author.Rules.{rules}
 use Rattle.lines.proofs.gather.Goals as goal
 
 pub returns-then-block-from : goal.returns-then-block-from

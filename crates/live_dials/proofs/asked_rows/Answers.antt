@@ -1,17 +1,14 @@
-use Prim.Native.Nat.{◌≤◌, ◌-◌}
 use mathlib.Core.Path.{◌≡◌, refl, ap, ◌∙◌}
-use mathlib.Core.List.{List, ◌++◌, map}
+use mathlib.Core.List.{List}
 use native.Mathlib.Omega.{arith}
-use lib.ListN.{take, get_or, replicate}
+use lib.ListN.{get_or}
 use Rattle.ids.specs.declared.PeerId.{PeerId}
 use Rattle.rows.specs.declared.Table.TheVariants.{Dials}
-use Rattle.rows.specs.Rows.{capacity}
 use Rattle.rows.specs.Words.{rows_of, no_row}
 use Rattle.rows.proofs.Lists.{map_more, map_all}
 use Rattle.dials.specs.Dials.{asked_of}
 use Rattle.live_dials.specs.declared.Asked.{Asked}
 use Rattle.live_dials.specs.Asking.{asked_rows}
-use borrow.Author.Rules.{rules}
 use Rattle.live_dials.proofs.asked_rows.Goals as goal
 
 pub loop-k-init : goal.loop-k-init

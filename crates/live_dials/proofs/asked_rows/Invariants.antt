@@ -1,17 +1,11 @@
 use Prim.Native.Nat.{◌≤◌, ◌-◌}
-use mathlib.Core.Path.{◌≡◌, refl, ap, ◌∙◌}
-use mathlib.Core.List.{List, ◌++◌, map}
-use native.Mathlib.Omega.{arith}
-use lib.ListN.{take, get_or, replicate}
-use Rattle.ids.specs.declared.PeerId.{PeerId}
+use mathlib.Core.Path.{◌≡◌}
+use mathlib.Core.List.{◌++◌, map}
+use lib.ListN.{take, replicate}
 use Rattle.rows.specs.declared.Table.TheVariants.{Dials}
 use Rattle.rows.specs.Rows.{capacity}
-use Rattle.rows.specs.Words.{rows_of, no_row}
-use Rattle.rows.proofs.Lists.{map_more, map_all}
+use Rattle.rows.specs.Words.{rows_of}
 use Rattle.dials.specs.Dials.{asked_of}
-use Rattle.live_dials.specs.declared.Asked.{Asked}
-use Rattle.live_dials.specs.Asking.{asked_rows}
-use borrow.Author.Rules.{rules}
 use Rattle.live_dials.proofs.asked_rows.Given as goal
 
 abbrev pub invariant-loop-k : goal.invariant-loop-k

@@ -1,6 +1,5 @@
 use mathlib.Core.Path.{sym, ap}
 use Rattle.live_dials.specs.First.{live_of}
-use borrow.Author.Rules.{rules}
 use Rattle.live_dials.proofs.live_of.Goals as goal
 
 pub returns-in-At : goal.returns-in-At

@@ -38,5 +38,6 @@ returns-else-out-size c =
     let a = c.args in
     let m = message_bytes a.kind (entries a.list.now) in
     let z = size_is a.list.now m c.message_size.ensures c.in-Message.is in
-    write_done a.list.now m m a.out.now c.message_size.ensures c.in-Message.is (omega arith) z.1
-    (c.put_message.ensures ∙ ap (λ (x : ℕ). sets a.out.now 0 (type_field x ++ address_fields (entries a.list.now))) c.type_number-number.ensures)
+    let t = write_done a.list.now m m a.out.now c.message_size.ensures c.in-Message.is (omega arith) z.1
+    (c.put_message.ensures ∙ ap (λ (x : ℕ). sets a.out.now 0 (type_field x ++ address_fields (entries a.list.now))) c.type_number-number.ensures) in
+    record { answer = t.0; stored = t.1 }

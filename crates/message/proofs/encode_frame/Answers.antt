@@ -39,7 +39,7 @@ put_message-requires c =
     let m = message_bytes a.kind xs in
     let z = size_is a.list.now m c.message_size.ensures c.in-Message.is in
     let b = message_adds a.kind xs c.type_number-number.ensures in
-    let k : length c.put_varint.new.1.0 ≡ length a.out.now = c.put_varint.auto.1.0 in
+    let k : length c.put_varint.new.out ≡ length a.out.now = c.put_varint.auto.out in
     omega arith
 
 pub returns-in-Refused : goal.returns-in-Refused
@@ -57,6 +57,7 @@ returns-else-out-head c =
     let b = frame_bytes a.kind xs in
     let z = size_is a.list.now m c.message_size.ensures c.in-Message.is in
     let f = frame_adds m z.1 c.varint_len-head.ensures in
-    write_done a.list.now m b a.out.now c.message_size.ensures c.in-Message.is (omega arith) f
+    let t = write_done a.list.now m b a.out.now c.message_size.ensures c.in-Message.is (omega arith) f
     (frame_stored a.out.now m z.1 c.varint_len-head.ensures c.put_varint.ensures
-    (c.put_message.ensures ∙ ap (λ (x : ℕ). sets c.put_varint.new.1.0 c.varint_len-head.result (type_field x ++ address_fields xs)) c.type_number-number.ensures))
+    (c.put_message.ensures ∙ ap (λ (x : ℕ). sets c.put_varint.new.out c.varint_len-head.result (type_field x ++ address_fields xs)) c.type_number-number.ensures)) in
+    record { answer = t.0; stored = t.1 }

@@ -11,7 +11,7 @@ use Rattle.message.proofs.put_message.Goals as goal
 
 pub put_fields-requires : goal.put_fields-requires
 put_fields-requires c =
-    let k : length c.put_varint.new.1.0 ≡ length c.args.out.now = c.put_varint.auto.1.0 ∙ simp length-set in
+    let k : length c.put_varint.new.out ≡ length c.args.out.now = c.put_varint.auto.out ∙ simp length-set in
     omega arith
 
 pub shape_of-out : goal.shape_of-out

@@ -2,11 +2,10 @@ use Prim.Native.Nat.{ℕ, suc, ◌≤◌, ◌<◌, ◌-◌, ◌+◌}
 use mathlib.Core.Path.{◌≡◌, subst, ◌∙◌}
 use native.Mathlib.Omega.{arith}
 use lib.ListN.{length, get_or}
-use Rattle.rows.specs.Words.{at, no_row, places_of, brought}
+use Rattle.rows.specs.Words.{no_row, places_of, brought}
 use Rattle.rows.proofs.Words.{length_places}
 use Rattle.rows.proofs.Moves.{opened, open_start, open_read, open_step, open_end}
 use Rattle.rows.proofs.Tables.{Holds, holds_start, holds_row, holds_write}
-use borrow.Author.Rules.{rules}
 use Rattle.rows.proofs.bring.Goals as goal
 
 pub read-row-requires : goal.read-row-requires

@@ -1,12 +1,7 @@
-use Prim.Native.Nat.{ℕ, suc, ◌≤◌, ◌<◌, ◌-◌, ◌+◌}
-use mathlib.Core.Path.{◌≡◌, subst, ◌∙◌}
-use native.Mathlib.Omega.{arith}
-use lib.ListN.{length, get_or}
-use Rattle.rows.specs.Words.{at, no_row, places_of, brought}
-use Rattle.rows.proofs.Words.{length_places}
-use Rattle.rows.proofs.Moves.{opened, open_start, open_read, open_step, open_end}
-use Rattle.rows.proofs.Tables.{Holds, holds_start, holds_row, holds_write}
-use borrow.Author.Rules.{rules}
+use Prim.Native.Nat.{◌≤◌, ◌-◌}
+use Rattle.rows.specs.Words.{places_of}
+use Rattle.rows.proofs.Moves.{opened}
+use Rattle.rows.proofs.Tables.{Holds}
 use Rattle.rows.proofs.bring.Given as goal
 
 abbrev pub invariant-loop-j : goal.invariant-loop-j

@@ -1,6 +1,5 @@
 use native.Mathlib.Omega.{arith}
 use Rattle.rows.proofs.Words.{used_is}
-use borrow.Author.Rules.{rules}
 use Rattle.rows.proofs.count.Goals as goal
 
 pub returns-then-n : goal.returns-then-n

@@ -1,4 +1,4 @@
-use Prim.Native.Nat.{◌≤◌, ◌<◌, ◌-◌, ◌+◌}
+use Prim.Native.Nat.{◌≤◌, ◌<◌, ◌+◌}
 use mathlib.Core.Path.{◌≡◌, refl, ap, sym, subst, ◌∙◌}
 use mathlib.Core.Bool.{true, false}
 use mathlib.Core.List.{List}
@@ -10,11 +10,10 @@ use Rattle.prelude.specs.Lists.{such}
 use Rattle.kinds.specs.declared.Row.{Row}
 use Rattle.rows.specs.declared.Keep.TheVariants.{Below}
 use Rattle.rows.specs.Rows.{kept}
-use Rattle.rows.specs.Words.{at, no_row, places_of, brought, divided}
+use Rattle.rows.specs.Words.{no_row, places_of, brought, divided}
 use Rattle.rows.proofs.Words.{length_places}
 use Rattle.rows.proofs.Moves.{brought_self, divide_none, divide_length, divide_read, divide_below, divide_above, count_below, count_above}
 use Rattle.rows.proofs.Tables.{Holds, holds_start, holds_row, holds_next}
-use borrow.Author.Rules.{rules}
 use Rattle.rows.proofs.divide.Goals as goal
 
 pub loop-i-init : goal.loop-i-init

@@ -1,20 +1,10 @@
-use Prim.Native.Nat.{◌≤◌, ◌<◌, ◌-◌, ◌+◌}
-use mathlib.Core.Path.{◌≡◌, refl, ap, sym, subst, ◌∙◌}
-use mathlib.Core.Bool.{true, false}
-use mathlib.Core.List.{List}
-use native.Mathlib.Omega.{arith}
-use borrow.Author.Tests.{lt-ltb, le-ltb}
-use lib.ListN.{length, get_or, take}
-use lib.Dec.{ltb}
-use Rattle.prelude.specs.Lists.{such}
-use Rattle.kinds.specs.declared.Row.{Row}
+use Prim.Native.Nat.{◌≤◌, ◌-◌}
+use mathlib.Core.Path.{◌≡◌}
+use lib.ListN.{length, take}
 use Rattle.rows.specs.declared.Keep.TheVariants.{Below}
 use Rattle.rows.specs.Rows.{kept}
-use Rattle.rows.specs.Words.{at, no_row, places_of, brought, divided}
-use Rattle.rows.proofs.Words.{length_places}
-use Rattle.rows.proofs.Moves.{brought_self, divide_none, divide_length, divide_read, divide_below, divide_above, count_below, count_above}
-use Rattle.rows.proofs.Tables.{Holds, holds_start, holds_row, holds_next}
-use borrow.Author.Rules.{rules}
+use Rattle.rows.specs.Words.{places_of, divided}
+use Rattle.rows.proofs.Tables.{Holds}
 use Rattle.rows.proofs.divide.Given as goal
 
 abbrev pub invariant-loop-i : goal.invariant-loop-i

@@ -16,7 +16,6 @@ use Rattle.rows.proofs.Moves.{length_filled}
 use Rattle.rows.proofs.Tables.{Holds, laid_own, settled}
 use Rattle.rows.proofs.Inserts.{between_them}
 use Rattle.rows.proofs.Laws.{length_inserted, inserted_fits}
-use borrow.Author.Rules.{rules}
 use Rattle.rows.proofs.insert_from.Goals as goal
 
 pub returns-then-is_crowded_from : goal.returns-then-is_crowded_from

@@ -6,7 +6,6 @@ use Rattle.rows.specs.Rows.{without, keeps_row}
 use Rattle.rows.specs.Words.{rows_from}
 use Rattle.rows.specs.declared.Keep.TheVariants.{Other}
 use Rattle.rows.proofs.Lists.{such_≤, none_removed, one_removed}
-use borrow.Author.Rules.{rules}
 use Rattle.rows.proofs.is_crowded_from.Goals as goal
 
 pub returns-then-count-lt-ROWS : goal.returns-then-count-lt-ROWS

@@ -3,7 +3,6 @@ use borrow.Author.Tests.{eq-eqb, ne_eqb}
 use lib.Dec.{eqb}
 use Rattle.rows.proofs.Lists.{not_no}
 use Rattle.rows.proofs.Lasting.{lasts_is}
-use borrow.Author.Rules.{rules}
 use Rattle.rows.proofs.keeps.Goals as goal
 
 pub returns-then-row-eq-WINDOW : goal.returns-then-row-eq-WINDOW

@@ -1,5 +1,4 @@
 use Rattle.rows.proofs.Words.{key_is}
-use borrow.Author.Rules.{rules}
 use Rattle.rows.proofs.key_at.Goals as goal
 
 pub returns : goal.returns

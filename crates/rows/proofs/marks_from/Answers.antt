@@ -1,15 +1,14 @@
-use Prim.Native.Nat.{◌≤◌, ◌<◌, ◌-◌}
+use Prim.Native.Nat.{◌<◌}
 use mathlib.Core.Path.{◌≡◌, refl, ap, sym, ◌∙◌}
 use mathlib.Core.Bool.{Bool, false}
-use mathlib.Core.List.{List, ◌++◌, map}
+use mathlib.Core.List.{List}
 use native.Mathlib.Omega.{arith}
-use lib.ListN.{length, take, get_or, replicate}
+use lib.ListN.{length, get_or}
 use lib.Seq.{get_or-take}
 use Rattle.rows.specs.Rows.{keeps_row, marks_by}
 use Rattle.rows.specs.Words.{at, no_row, places_of, rows_from}
 use Rattle.rows.proofs.Lists.{map_more, map_all}
 use Rattle.rows.proofs.Words.{used_is}
-use borrow.Author.Rules.{rules}
 use Rattle.rows.proofs.marks_from.Goals as goal
 
 pub loop-i-init : goal.loop-i-init

@@ -1,4 +1,4 @@
-use Prim.Native.Nat.{◌≤◌, ◌<◌, ◌-◌, ◌+◌}
+use Prim.Native.Nat.{◌≤◌, ◌<◌, ◌+◌}
 use mathlib.Core.Path.{◌≡◌, refl, subst, ◌∙◌}
 use mathlib.Core.List.{[], ◌∷◌, ◌++◌}
 use native.Mathlib.Omega.{arith}
@@ -9,7 +9,6 @@ use Rattle.rows.proofs.Words.{length_places}
 use Rattle.rows.proofs.Lists.{marked_more, marked_skip, marked_all}
 use Rattle.rows.proofs.Moves.{fill_read, fill_more, fill_same}
 use Rattle.rows.proofs.Tables.{Holds, holds_start, holds_row, holds_write}
-use borrow.Author.Rules.{rules}
 use Rattle.rows.proofs.pack.Goals as goal
 
 pub loop-i-init : goal.loop-i-init
@@ -40,11 +39,11 @@ loop-i-preserved-then-to-from c =
     let w = a.l.now in
     let x = c.loop-i in
     let ps = places_of a.b w in
-    let xs = marked (take x.i a.t3.keep) (take x.i (rows_from a.b w)) in
+    let xs = marked (take x.i a.marks.keep) (take x.i (rows_from a.b w)) in
     let h : a.b + 321 ≤ length w = omega (arith, c.known.ensures) in
     let p : x.i < length ps = omega (arith, length_places a.b w) in
     let r : x.i < length (rows_from a.b w) = omega arith in
-    let q = marked_more a.t3.keep ps (at w a.b) x.i no_row r c.if-marks-from.true in
+    let q = marked_more a.marks.keep ps (at w a.b) x.i no_row r c.if-marks-from.true in
     let l : length xs ≤ length ps = omega arith in
     let e : c.read-row.result ≡ get_or ps x.i no_row = c.read-row.ensures ∙ holds_row h x.invariant.3 x.i ∙ fill_read xs ps l x.i (omega arith) in
     (omega arith, omega arith, rw q (simp length-append (omega arith)), rw q (holds_write h x.invariant.3 x.m (get_or ps x.i no_row) (filled (xs ++ (get_or ps x.i no_row ∷ [])) ps) (rw e at c.write.ensures) (fill_more xs ps l (get_or ps x.i no_row) x.m x.invariant.2 (omega arith))))
@@ -58,10 +57,10 @@ loop-i-preserved-else-to-from c =
     let w = a.l.now in
     let x = c.loop-i in
     let ps = places_of a.b w in
-    let xs = marked (take x.i a.t3.keep) (take x.i (rows_from a.b w)) in
+    let xs = marked (take x.i a.marks.keep) (take x.i (rows_from a.b w)) in
     let p : x.i < length ps = omega (arith, length_places a.b w) in
     let r : x.i < length (rows_from a.b w) = omega arith in
-    let q = marked_more a.t3.keep ps (at w a.b) x.i no_row r c.if-marks-from.true in
+    let q = marked_more a.marks.keep ps (at w a.b) x.i no_row r c.if-marks-from.true in
     let l : length xs ≤ length ps = omega arith in
     let z : x.i ≡ length xs = omega arith in
     (omega arith, omega arith, rw q (simp length-append (omega arith)), rw q (subst (Holds a.b w x.l) (fill_same xs ps l x.i z p) x.invariant.3))
@@ -75,7 +74,7 @@ loop-i-preserved c =
     let w = a.l.now in
     let x = c.loop-i in
     let r : x.i < length (rows_from a.b w) = omega arith in
-    let q = marked_skip a.t3.keep (places_of a.b w) (at w a.b) x.i no_row r c.if-marks-from.false in
+    let q = marked_skip a.marks.keep (places_of a.b w) (at w a.b) x.i no_row r c.if-marks-from.false in
     (omega arith, omega arith, rw q x.invariant.2, rw q x.invariant.3)
 
 pub returns : goal.returns
@@ -84,5 +83,5 @@ returns c =
     let w = a.l.now in
     let x = c.loop-i in
     let rs = rows_from a.b w in
-    let q = marked_all a.t3.keep rs x.i (omega arith) in
+    let q = marked_all a.marks.keep rs x.i (omega arith) in
     record { count = (rw q at x.invariant.2, omega (arith, c.count-n.ensures)); words = rw q at x.invariant.3.is }

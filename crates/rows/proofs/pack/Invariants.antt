@@ -1,15 +1,9 @@
-use Prim.Native.Nat.{◌≤◌, ◌<◌, ◌-◌, ◌+◌}
-use mathlib.Core.Path.{◌≡◌, refl, subst, ◌∙◌}
-use mathlib.Core.List.{[], ◌∷◌, ◌++◌}
-use native.Mathlib.Omega.{arith}
-use lib.ListN.{length, get_or, take, length-append}
+use Prim.Native.Nat.{◌≤◌, ◌-◌}
+use mathlib.Core.Path.{◌≡◌}
+use lib.ListN.{length, take}
 use Rattle.rows.specs.Rows.{marked}
-use Rattle.rows.specs.Words.{at, no_row, places_of, rows_from, filled}
-use Rattle.rows.proofs.Words.{length_places}
-use Rattle.rows.proofs.Lists.{marked_more, marked_skip, marked_all}
-use Rattle.rows.proofs.Moves.{fill_read, fill_more, fill_same}
-use Rattle.rows.proofs.Tables.{Holds, holds_start, holds_row, holds_write}
-use borrow.Author.Rules.{rules}
+use Rattle.rows.specs.Words.{places_of, rows_from, filled}
+use Rattle.rows.proofs.Tables.{Holds}
 use Rattle.rows.proofs.pack.Given as goal
 
 abbrev pub invariant-loop-i : goal.invariant-loop-i

@@ -1,5 +1,4 @@
 use Rattle.rows.proofs.Words.{read_is}
-use borrow.Author.Rules.{rules}
 use Rattle.rows.proofs.read.Goals as goal
 
 pub returns : goal.returns

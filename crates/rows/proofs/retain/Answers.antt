@@ -5,7 +5,6 @@ use Rattle.rows.specs.declared.Marks.{Marks}
 use Rattle.rows.specs.Rows.{marked, keeps_row}
 use Rattle.rows.specs.Words.{rows_from, laid_from}
 use Rattle.rows.proofs.Lists.{marks_such}
-use borrow.Author.Rules.{rules}
 use Rattle.rows.proofs.retain.Goals as goal
 
 pub returns : goal.returns

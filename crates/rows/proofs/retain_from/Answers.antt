@@ -8,7 +8,6 @@ use Rattle.rows.proofs.Words.{length_places}
 use Rattle.rows.proofs.Lists.{marked_≤}
 use Rattle.rows.proofs.Moves.{length_filled}
 use Rattle.rows.proofs.Tables.{settled}
-use borrow.Author.Rules.{rules}
 use Rattle.rows.proofs.retain_from.Goals as goal
 
 pub settle-requires : goal.settle-requires

@@ -5,7 +5,6 @@ use lib.ListN.{length, get_or-eq_default}
 use lib.Seq.{get_or-take}
 use Rattle.rows.specs.Words.{at, no_row, places_of, rows_from}
 use Rattle.rows.proofs.Words.{used_is}
-use borrow.Author.Rules.{rules}
 use Rattle.rows.proofs.row_at.Goals as goal
 
 pub read-requires : goal.read-requires

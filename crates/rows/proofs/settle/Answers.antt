@@ -8,8 +8,7 @@ use Rattle.kinds.specs.declared.Row.{Row}
 use Rattle.rows.specs.Words.{at, no_row, places_of, tabled}
 use Rattle.rows.proofs.Words.{length_places}
 use Rattle.rows.proofs.Moves.{zeroed, zero_start, zero_step, zero_end}
-use Rattle.rows.proofs.Tables.{Holds, holds_start, holds_places, holds_length, holds_tabled, holds_write, count_write}
-use borrow.Author.Rules.{rules}
+use Rattle.rows.proofs.Tables.{holds_start, holds_places, holds_length, holds_tabled, holds_write, count_write}
 use Rattle.rows.proofs.settle.Goals as goal
 
 pub loop-i-init : goal.loop-i-init

@@ -1,15 +1,7 @@
-use Prim.Native.Nat.{◌≤◌, ◌<◌, ◌-◌, ◌+◌}
-use mathlib.Core.Path.{◌≡◌, ap, ◌∙◌}
-use mathlib.Core.List.{List}
-use native.Mathlib.Omega.{arith}
-use borrow.Author.Tests.{eq-eqb, ne_eqb}
-use lib.ListN.{length}
-use Rattle.kinds.specs.declared.Row.{Row}
-use Rattle.rows.specs.Words.{at, no_row, places_of, tabled}
-use Rattle.rows.proofs.Words.{length_places}
-use Rattle.rows.proofs.Moves.{zeroed, zero_start, zero_step, zero_end}
-use Rattle.rows.proofs.Tables.{Holds, holds_start, holds_places, holds_length, holds_tabled, holds_write, count_write}
-use borrow.Author.Rules.{rules}
+use Prim.Native.Nat.{◌≤◌, ◌-◌, ◌+◌}
+use Rattle.rows.specs.Words.{places_of}
+use Rattle.rows.proofs.Moves.{zeroed}
+use Rattle.rows.proofs.Tables.{Holds}
 use Rattle.rows.proofs.settle.Given as goal
 
 abbrev pub invariant-loop-i : goal.invariant-loop-i

@@ -1,6 +1,5 @@
 use native.Mathlib.Omega.{arith}
 use Rattle.rows.proofs.Words.{write_is}
-use borrow.Author.Rules.{rules}
 use Rattle.rows.proofs.write.Goals as goal
 
 pub returns : goal.returns

@@ -1,5 +1,6 @@
 use Rattle.circuit.specs.Decisions.{length_of}
-use mathlib.Core.Path.{sym}
+use mathlib.Core.Path.{ap}
+use Rattle.frames.specs.declared.Framed.{Framed}
 use borrow.Author.Rules.{rules}
 use Rattle.circuit.proofs.decision.message_size.Goals as goal
 
@@ -13,4 +14,4 @@ returns-in-Connect c = simp c.in-Connect.is
 
 pub returns-in-Sync : goal.returns-in-Sync
 unfolding length_of
-returns-in-Sync c = simp (sym c.sync_frame-sync.ensures, c.in-Sync.is)
+returns-in-Sync c = rw c.in-Sync.is (ap (λ (f : Framed). f.len) c.sync_frame-sync.ensures)

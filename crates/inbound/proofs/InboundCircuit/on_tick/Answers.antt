@@ -7,4 +7,9 @@ use Rattle.inbound.proofs.InboundCircuit.on_tick.Goals as goal
 
 pub returns : goal.returns
 unfolding tick_answer answer_of
-returns c = (made_answer c.args.self.connect c.made.ensures c.on_tick-d.ensures.answer c.on_tick-d.ensures.connect.0 refl c.on_tick-d.ensures.connect.1.0 c.blank-sent.ensures, (c.on_tick-d.ensures.connect.1.1.0, c.on_tick-d.ensures.connect.1.1.1))
+returns c =
+    record {
+      answer = made_answer c.args.self.connect c.made.ensures c.on_tick-d.ensures.answer c.on_tick-d.ensures.connect refl c.on_tick-d.ensures.sent c.blank-sent.ensures;
+      tables = c.on_tick-d.ensures.tables;
+      words = c.on_tick-d.ensures.words;
+    }

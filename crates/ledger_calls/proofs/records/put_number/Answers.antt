@@ -2,4 +2,8 @@ use borrow.Author.Rules.{rules}
 use Rattle.ledger_calls.proofs.records.put_number.Goals as goal
 
 pub returns : goal.returns
-returns c = rw (← c.octets-bytes.ensures) (c.put_text.ensures.bytes, c.put_text.ensures.place)
+returns c =
+    record {
+      bytes = rw (← c.octets-bytes.ensures) (c.put_text.ensures.bytes);
+      place = rw (← c.octets-bytes.ensures) (c.put_text.ensures.place);
+    }

@@ -14,4 +14,9 @@ pub slice_bounds-respond-end : goal.slice_bounds-respond-end
 slice_bounds-respond-end c = simp length-take (omega (arith, within _ _ _ c.bytes_in-b.ensures))
 
 pub returns : goal.returns
-returns c = (found_by _ _ c.call_of-c.ensures c.put_answer.ensures.found, parts (renamed (by_table _ _ c.call_of-c.ensures c.bytes_in-b.ensures c.respond-said.ensures) (laid _ _ _ c.put_answer.ensures.bytes)))
+returns c =
+    record {
+      found = found_by _ _ c.call_of-c.ensures c.put_answer.ensures.found;
+      bytes = (parts (renamed (by_table _ _ c.call_of-c.ensures c.bytes_in-b.ensures c.respond-said.ensures) (laid _ _ _ c.put_answer.ensures.bytes))).0;
+      place = (parts (renamed (by_table _ _ c.call_of-c.ensures c.bytes_in-b.ensures c.respond-said.ensures) (laid _ _ _ c.put_answer.ensures.bytes))).1;
+    }

@@ -6,7 +6,19 @@ use Rattle.library_calls.proofs.Scheduling.{found_turn, found_text, none_turn, n
 use Rattle.library_calls.proofs.schedules.answer_by.Goals as goal
 
 pub returns-then-c : goal.returns-then-c
-returns-then-c c = (found_as _ _ c.call_of-c.ensures c.if-c.true, (found_turn _ _ _ c.call_of-c.ensures c.if-c.true c.respond-t.ensures, parts (renamed (found_text _ _ _ c.call_of-c.ensures c.if-c.true c.respond-t.ensures) (laid _ _ _ (c.put_said-end.ensures.bytes, c.put_said-end.ensures.place)))))
+returns-then-c c =
+    record {
+      found = found_as _ _ c.call_of-c.ensures c.if-c.true;
+      schedule = found_turn _ _ _ c.call_of-c.ensures c.if-c.true c.respond-t.ensures;
+      bytes = (parts (renamed (found_text _ _ _ c.call_of-c.ensures c.if-c.true c.respond-t.ensures) (laid _ _ _ (c.put_said-end.ensures.bytes, c.put_said-end.ensures.place)))).0;
+      place = (parts (renamed (found_text _ _ _ c.call_of-c.ensures c.if-c.true c.respond-t.ensures) (laid _ _ _ (c.put_said-end.ensures.bytes, c.put_said-end.ensures.place)))).1;
+    }
 
 pub returns : goal.returns
-returns c = (found_as _ _ c.call_of-c.ensures c.if-c.false, (none_turn _ _ _ c.call_of-c.ensures c.if-c.false, parts (renamed (none_text _ _ _ c.call_of-c.ensures c.if-c.false) (laid_none _ 0))))
+returns c =
+    record {
+      found = found_as _ _ c.call_of-c.ensures c.if-c.false;
+      schedule = none_turn _ _ _ c.call_of-c.ensures c.if-c.false;
+      bytes = (parts (renamed (none_text _ _ _ c.call_of-c.ensures c.if-c.false) (laid_none _ 0))).0;
+      place = (parts (renamed (none_text _ _ _ c.call_of-c.ensures c.if-c.false) (laid_none _ 0))).1;
+    }
