@@ -18,7 +18,3 @@ module _ (k : Kept) (ws line : List ℕ) (s : Reading) {b : Bool} (e : b ≡ is_
   pub step_none : b ≡ false → turn k ws [] ≡ step_of s line k ws
   unfolding step_of
   step_none t = rw (← e, t)
-
--- with a fact more
-pub step_told : {a b c d e : Type 0} → a × (b × (c × d)) → e → a × (b × (c × (d × e)))
-step_told f g = (f.0, (f.1.0, (f.1.1.0, (f.1.1.1, g))))

@@ -156,7 +156,7 @@ fn row_said(l: &Ledger, table: Table, place: u64) -> Said
 
 // ---- an abort
 
-// The first live connection of each peer asked for, over the first n records. It makes a reference to records, so it is proved by hand.
+// The first live connection of each peer asked for, over the first n records.
 fn firsts_in(asked: Asked, rows: [Live; RECORDS], n: usize) -> Firsts
     requires { n ≤ 1024 }
     ensures { result ≡ firsts_of (take n rows) asked }

@@ -1,5 +1,5 @@
 -- Calls of `wire` and `message` (RULES.md, sections 2 to 5): each row's call, and what is answered to it.
-use Rattle.std.specs.Prelude.{ℕ, List, [], ◌∷◌, ◌++◌, Bool, length, take, replicate, get_or, ltb, eqb}
+use Rattle.std.specs.Prelude.{ℕ, List, [], ◌∷◌, ◌++◌, length, take, replicate, get_or, ltb, eqb}
 use Rattle.prelude.specs.Choice.{pick}
 use Rattle.text.specs.Words.{ascii}
 use Rattle.text.specs.Printed.{printed}

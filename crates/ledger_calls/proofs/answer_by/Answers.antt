@@ -4,7 +4,6 @@ use Rattle.call_table.proofs.Calling.{found_as, within}
 use Rattle.text.proofs.Printing.{laid, parts, laid_none}
 use Rattle.line_program.proofs.Answers.{renamed}
 use Rattle.ledger_calls.proofs.Turning.{as_turned, found_turn, found_text, none_turn, none_text}
-use borrow.Author.Rules.{rules}
 use Rattle.ledger_calls.proofs.answer_by.Goals as goal
 
 pub slice_bounds-bytes-end : goal.slice_bounds-bytes-end
@@ -15,7 +14,7 @@ slice_bounds-respond-end c = simp length-take (omega (arith, within _ _ _ c.byte
 
 pub returns-then-c : goal.returns-then-c
 returns-then-c c =
-    let t = as_turned (found_turn _ _ _ c.call_of-c.ensures c.if-c.true c.bytes_in-b.ensures) c.respond-said.ensures.tables in
+    let t = as_turned (found_turn _ _ _ c.call_of-c.ensures c.if-c.true c.bytes_in-b.ensures) (c.respond-said.ensures.tables, c.respond-said.ensures.words) in
     record {
       found = found_as _ _ c.call_of-c.ensures c.if-c.true;
       tables = t.0;

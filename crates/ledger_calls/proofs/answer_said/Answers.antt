@@ -1,5 +1,4 @@
 use mathlib.Core.Path.{sym}
-use borrow.Author.Rules.{rules}
 use Rattle.ledger_calls.proofs.answer_said.Goals as goal
 
 pub returns-in-None : goal.returns-in-None

@@ -1,7 +1,6 @@
 use mathlib.Core.Path.{ap, ◌∙◌}
 use borrow.Author.Tests.{eq-eqb, ne_eqb}
 use Rattle.ledger_calls.specs.Calls.{outcome_said, dial_said, answer_said, path_said, change_turn}
-use borrow.Author.Rules.{rules}
 use Rattle.ledger_calls.proofs.change.Goals as goal
 
 pub returns-then-row-eq0 : goal.returns-then-row-eq0
@@ -18,8 +17,8 @@ unfolding change_turn
 returns-then-row-eq1 c =
     record {
       said = rw (ne_eqb _ _ c.if-row-eq0.false, eq-eqb _ _ c.if-row-eq1.true, ← c.purpose_of-purpose.ensures) (c.outcome_said.ensures ∙ ap outcome_said c.dial_started.ensures.answer);
-      tables = rw (ne_eqb _ _ c.if-row-eq0.false, eq-eqb _ _ c.if-row-eq1.true, ← c.purpose_of-purpose.ensures) ((c.dial_started.ensures.tables).0);
-      words = rw (ne_eqb _ _ c.if-row-eq0.false, eq-eqb _ _ c.if-row-eq1.true, ← c.purpose_of-purpose.ensures) ((c.dial_started.ensures.tables).1);
+      tables = rw (ne_eqb _ _ c.if-row-eq0.false, eq-eqb _ _ c.if-row-eq1.true, ← c.purpose_of-purpose.ensures) (c.dial_started.ensures.tables);
+      words = rw (ne_eqb _ _ c.if-row-eq0.false, eq-eqb _ _ c.if-row-eq1.true, ← c.purpose_of-purpose.ensures) (c.dial_started.ensures.words);
     }
 
 pub returns-then-row-eq2 : goal.returns-then-row-eq2
@@ -27,8 +26,8 @@ unfolding change_turn
 returns-then-row-eq2 c =
     record {
       said = rw (ne_eqb _ _ c.if-row-eq0.false, ne_eqb _ _ c.if-row-eq1.false, eq-eqb _ _ c.if-row-eq2.true) (c.dial_said.ensures ∙ ap dial_said c.finish_dial.ensures.answer);
-      tables = rw (ne_eqb _ _ c.if-row-eq0.false, ne_eqb _ _ c.if-row-eq1.false, eq-eqb _ _ c.if-row-eq2.true) ((c.finish_dial.ensures.tables).0);
-      words = rw (ne_eqb _ _ c.if-row-eq0.false, ne_eqb _ _ c.if-row-eq1.false, eq-eqb _ _ c.if-row-eq2.true) ((c.finish_dial.ensures.tables).1);
+      tables = rw (ne_eqb _ _ c.if-row-eq0.false, ne_eqb _ _ c.if-row-eq1.false, eq-eqb _ _ c.if-row-eq2.true) (c.finish_dial.ensures.tables);
+      words = rw (ne_eqb _ _ c.if-row-eq0.false, ne_eqb _ _ c.if-row-eq1.false, eq-eqb _ _ c.if-row-eq2.true) (c.finish_dial.ensures.words);
     }
 
 pub returns-then-row-eq3 : goal.returns-then-row-eq3
@@ -36,8 +35,8 @@ unfolding change_turn
 returns-then-row-eq3 c =
     record {
       said = rw (ne_eqb _ _ c.if-row-eq0.false, ne_eqb _ _ c.if-row-eq1.false, ne_eqb _ _ c.if-row-eq2.false, eq-eqb _ _ c.if-row-eq3.true) (c.outcome_said-then-row-eq3.ensures ∙ ap outcome_said c.expect_punches.ensures.answer);
-      tables = rw (ne_eqb _ _ c.if-row-eq0.false, ne_eqb _ _ c.if-row-eq1.false, ne_eqb _ _ c.if-row-eq2.false, eq-eqb _ _ c.if-row-eq3.true) ((c.expect_punches.ensures.tables).0);
-      words = rw (ne_eqb _ _ c.if-row-eq0.false, ne_eqb _ _ c.if-row-eq1.false, ne_eqb _ _ c.if-row-eq2.false, eq-eqb _ _ c.if-row-eq3.true) ((c.expect_punches.ensures.tables).1);
+      tables = rw (ne_eqb _ _ c.if-row-eq0.false, ne_eqb _ _ c.if-row-eq1.false, ne_eqb _ _ c.if-row-eq2.false, eq-eqb _ _ c.if-row-eq3.true) (c.expect_punches.ensures.tables);
+      words = rw (ne_eqb _ _ c.if-row-eq0.false, ne_eqb _ _ c.if-row-eq1.false, ne_eqb _ _ c.if-row-eq2.false, eq-eqb _ _ c.if-row-eq3.true) (c.expect_punches.ensures.words);
     }
 
 pub returns-then-row-eq4 : goal.returns-then-row-eq4
@@ -54,8 +53,8 @@ unfolding change_turn
 returns-then-row-eq5 c =
     record {
       said = rw (ne_eqb _ _ c.if-row-eq0.false, ne_eqb _ _ c.if-row-eq1.false, ne_eqb _ _ c.if-row-eq2.false, ne_eqb _ _ c.if-row-eq3.false, ne_eqb _ _ c.if-row-eq4.false, eq-eqb _ _ c.if-row-eq5.true, ← c.claim_of-claim.ensures) (c.answer_said.ensures ∙ ap answer_said c.attribute.ensures.answer);
-      tables = rw (ne_eqb _ _ c.if-row-eq0.false, ne_eqb _ _ c.if-row-eq1.false, ne_eqb _ _ c.if-row-eq2.false, ne_eqb _ _ c.if-row-eq3.false, ne_eqb _ _ c.if-row-eq4.false, eq-eqb _ _ c.if-row-eq5.true, ← c.claim_of-claim.ensures) ((c.attribute.ensures.tables).0);
-      words = rw (ne_eqb _ _ c.if-row-eq0.false, ne_eqb _ _ c.if-row-eq1.false, ne_eqb _ _ c.if-row-eq2.false, ne_eqb _ _ c.if-row-eq3.false, ne_eqb _ _ c.if-row-eq4.false, eq-eqb _ _ c.if-row-eq5.true, ← c.claim_of-claim.ensures) ((c.attribute.ensures.tables).1);
+      tables = rw (ne_eqb _ _ c.if-row-eq0.false, ne_eqb _ _ c.if-row-eq1.false, ne_eqb _ _ c.if-row-eq2.false, ne_eqb _ _ c.if-row-eq3.false, ne_eqb _ _ c.if-row-eq4.false, eq-eqb _ _ c.if-row-eq5.true, ← c.claim_of-claim.ensures) (c.attribute.ensures.tables);
+      words = rw (ne_eqb _ _ c.if-row-eq0.false, ne_eqb _ _ c.if-row-eq1.false, ne_eqb _ _ c.if-row-eq2.false, ne_eqb _ _ c.if-row-eq3.false, ne_eqb _ _ c.if-row-eq4.false, eq-eqb _ _ c.if-row-eq5.true, ← c.claim_of-claim.ensures) (c.attribute.ensures.words);
     }
 
 pub returns-then-row-eq6 : goal.returns-then-row-eq6
@@ -63,8 +62,8 @@ unfolding change_turn
 returns-then-row-eq6 c =
     record {
       said = rw (ne_eqb _ _ c.if-row-eq0.false, ne_eqb _ _ c.if-row-eq1.false, ne_eqb _ _ c.if-row-eq2.false, ne_eqb _ _ c.if-row-eq3.false, ne_eqb _ _ c.if-row-eq4.false, ne_eqb _ _ c.if-row-eq5.false, eq-eqb _ _ c.if-row-eq6.true) (c.path_said.ensures ∙ ap path_said c.forget.ensures.answer);
-      tables = rw (ne_eqb _ _ c.if-row-eq0.false, ne_eqb _ _ c.if-row-eq1.false, ne_eqb _ _ c.if-row-eq2.false, ne_eqb _ _ c.if-row-eq3.false, ne_eqb _ _ c.if-row-eq4.false, ne_eqb _ _ c.if-row-eq5.false, eq-eqb _ _ c.if-row-eq6.true) ((c.forget.ensures.tables).0);
-      words = rw (ne_eqb _ _ c.if-row-eq0.false, ne_eqb _ _ c.if-row-eq1.false, ne_eqb _ _ c.if-row-eq2.false, ne_eqb _ _ c.if-row-eq3.false, ne_eqb _ _ c.if-row-eq4.false, ne_eqb _ _ c.if-row-eq5.false, eq-eqb _ _ c.if-row-eq6.true) ((c.forget.ensures.tables).1);
+      tables = rw (ne_eqb _ _ c.if-row-eq0.false, ne_eqb _ _ c.if-row-eq1.false, ne_eqb _ _ c.if-row-eq2.false, ne_eqb _ _ c.if-row-eq3.false, ne_eqb _ _ c.if-row-eq4.false, ne_eqb _ _ c.if-row-eq5.false, eq-eqb _ _ c.if-row-eq6.true) (c.forget.ensures.tables);
+      words = rw (ne_eqb _ _ c.if-row-eq0.false, ne_eqb _ _ c.if-row-eq1.false, ne_eqb _ _ c.if-row-eq2.false, ne_eqb _ _ c.if-row-eq3.false, ne_eqb _ _ c.if-row-eq4.false, ne_eqb _ _ c.if-row-eq5.false, eq-eqb _ _ c.if-row-eq6.true) (c.forget.ensures.words);
     }
 
 pub returns : goal.returns

@@ -1,7 +1,6 @@
 use mathlib.Core.Path.{◌∙◌}
 use Rattle.text.proofs.Printing.{laid}
 use Rattle.ledger_calls.proofs.Numbers.{dropped_shown}
-use borrow.Author.Rules.{rules}
 use Rattle.ledger_calls.proofs.dropped_said.Goals as goal
 
 pub returns : goal.returns

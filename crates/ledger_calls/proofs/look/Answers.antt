@@ -1,7 +1,6 @@
 use mathlib.Core.Path.{◌∙◌}
 use borrow.Author.Tests.{eq-eqb, ne_eqb}
 use Rattle.ledger_calls.specs.Calls.{look_said}
-use borrow.Author.Rules.{rules}
 use Rattle.ledger_calls.proofs.look.Goals as goal
 
 pub returns-then-row-eq9 : goal.returns-then-row-eq9

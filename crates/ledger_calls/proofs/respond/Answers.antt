@@ -1,7 +1,6 @@
 use mathlib.Core.Path.{refl}
 use borrow.Author.Tests.{lt-ltb, le-ltb, eq-eqb, ne_eqb}
 use Rattle.ledger_calls.specs.Calls.{turn_of}
-use borrow.Author.Rules.{rules}
 use Rattle.ledger_calls.proofs.respond.Goals as goal
 
 pub returns-then-row-lt8 : goal.returns-then-row-lt8

@@ -1,6 +1,5 @@
 use mathlib.Core.Path.{◌∙◌}
 use Rattle.ledger_calls.proofs.Turning.{no_row_lem, some_row}
-use borrow.Author.Rules.{rules}
 use Rattle.ledger_calls.proofs.row_said.Goals as goal
 
 pub returns-then-n-place : goal.returns-then-n-place

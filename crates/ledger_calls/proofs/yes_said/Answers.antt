@@ -1,5 +1,4 @@
 use mathlib.Core.Path.{◌∙◌}
-use borrow.Author.Rules.{rules}
 use Rattle.ledger_calls.proofs.yes_said.Goals as goal
 
 pub returns-then-yes : goal.returns-then-yes

@@ -1,6 +1,5 @@
 use native.Mathlib.Omega.{arith}
 use Rattle.ledger_calls.specs.Records.{half}
-use borrow.Author.Rules.{rules}
 use Rattle.ledger_calls.proofs.records.half_at.Goals as goal
 
 pub returns : goal.returns

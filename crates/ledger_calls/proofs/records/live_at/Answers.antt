@@ -1,4 +1,3 @@
-use borrow.Author.Rules.{rules}
 use Rattle.ledger_calls.proofs.records.live_at.Goals as goal
 
 pub returns : goal.returns

@@ -1,6 +1,5 @@
 use mathlib.Core.Path.{refl}
 use Rattle.ledger_calls.specs.Records.{octets}
-use borrow.Author.Rules.{rules}
 use Rattle.ledger_calls.proofs.records.octets.Goals as goal
 
 pub returns : goal.returns

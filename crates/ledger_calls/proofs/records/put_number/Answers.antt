@@ -1,4 +1,3 @@
-use borrow.Author.Rules.{rules}
 use Rattle.ledger_calls.proofs.records.put_number.Goals as goal
 
 pub returns : goal.returns

@@ -1,12 +1,11 @@
-use mathlib.Core.Path.{◌≡◌, refl, ◌∙◌}
-use Prim.Native.Nat.{◌≤◌, ◌<◌, ◌-◌}
+use mathlib.Core.Path.{refl, ◌∙◌}
+use Prim.Native.Nat.{◌<◌}
 use native.Mathlib.Omega.{arith}
 use Rattle.ids.specs.declared.NatToken.{NatToken}
-use lib.ListN.{length, length-map}
-use Rattle.text.proofs.Printing.{Laid, laid, laid_none, parts, length_kept}
+use lib.ListN.{length}
+use Rattle.text.proofs.Printing.{laid, laid_none, parts, length_kept}
 use Rattle.ledger_calls.specs.Records.{up_to, token_at, tokens_bytes}
 use Rattle.ledger_calls.proofs.Numbers.{number_next, numbers_all, number_at}
-use borrow.Author.Rules.{rules}
 use Rattle.ledger_calls.proofs.records.put_tokens.Goals as goal
 
 pub loop-i-init : goal.loop-i-init
@@ -27,14 +26,10 @@ loop-i-smaller c = omega (arith, c.least-n.ensures)
 
 pub loop-i-preserved : goal.loop-i-preserved
 loop-i-preserved c =
-    let h : length c.args.t1.tokens ≡ 64 = simp length-map at c.well-formed.0.1.1.0.1.0.1 in
-    let b : c.loop-i.i < length c.args.t1.tokens = omega (arith, c.least-n.ensures) in
+    let b : c.loop-i.i < length c.args.list.tokens = omega (arith, c.least-n.ensures) in
     let e = laid _ _ _ (c.put_number-p.ensures.bytes, c.put_number-p.ensures.place) in
-    (omega (arith, c.least-n.ensures), number_next (token_at c.args.t1) _ c.loop-i.invariant.1 (number_at (λ (v : NatToken). v.0) c.args.t1.tokens c.loop-i.i _ (record { 0 = 0 }) b e), length_kept e ∙ c.loop-i.invariant.2)
-
-pub shape_of-out : goal.shape_of-out
-shape_of-out c = c.loop-i.invariant.2
+    (omega (arith, c.least-n.ensures), number_next (token_at c.args.list) _ c.loop-i.invariant.1 (number_at (λ (v : NatToken). v.0) c.args.list.tokens c.loop-i.i _ (record { 0 = 0 }) b e), length_kept e ∙ c.loop-i.invariant.2)
 
 pub returns : goal.returns
 unfolding tokens_bytes
-returns c = record { bytes = (parts (numbers_all (token_at c.args.t1) (omega (arith, c.least-n.ensures)) c.loop-i.invariant.1)).0; place = (parts (numbers_all (token_at c.args.t1) (omega (arith, c.least-n.ensures)) c.loop-i.invariant.1)).1 }
+returns c = record { bytes = (parts (numbers_all (token_at c.args.list) (omega (arith, c.least-n.ensures)) c.loop-i.invariant.1)).0; place = (parts (numbers_all (token_at c.args.list) (omega (arith, c.least-n.ensures)) c.loop-i.invariant.1)).1 }

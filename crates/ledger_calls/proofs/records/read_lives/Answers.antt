@@ -1,12 +1,10 @@
-use mathlib.Core.Path.{◌≡◌, refl}
-use Prim.Native.Nat.{◌≤◌, ◌-◌}
+use mathlib.Core.Path.{refl}
 use native.Mathlib.Omega.{arith}
-use lib.ListN.{length, take, length-set, length-replicate}
+use lib.ListN.{length-set, length-replicate}
 use Rattle.live_dials.specs.declared.Live.{Live}
 use Rattle.live_dials.specs.First.{no_live}
 use Rattle.ledger_calls.specs.Records.{up_to}
-use Rattle.ledger_calls.proofs.Numbers.{lives, live_next, lives_all}
-use borrow.Author.Rules.{rules}
+use Rattle.ledger_calls.proofs.Numbers.{live_next, lives_all}
 use Rattle.ledger_calls.proofs.records.read_lives.Goals as goal
 
 pub loop-k-init : goal.loop-k-init

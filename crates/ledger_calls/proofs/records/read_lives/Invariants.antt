@@ -1,12 +1,8 @@
-use mathlib.Core.Path.{◌≡◌, refl}
+use mathlib.Core.Path.{◌≡◌}
 use Prim.Native.Nat.{◌≤◌, ◌-◌}
-use native.Mathlib.Omega.{arith}
-use lib.ListN.{length, take, length-set, length-replicate}
-use Rattle.live_dials.specs.declared.Live.{Live}
-use Rattle.live_dials.specs.First.{no_live}
+use lib.ListN.{length, take}
 use Rattle.ledger_calls.specs.Records.{up_to}
-use Rattle.ledger_calls.proofs.Numbers.{lives, live_next, lives_all}
-use borrow.Author.Rules.{rules}
+use Rattle.ledger_calls.proofs.Numbers.{lives}
 use Rattle.ledger_calls.proofs.records.read_lives.Given as goal
 
 abbrev pub invariant-loop-k : goal.invariant-loop-k

@@ -1,5 +1,4 @@
 use Rattle.ledger_calls.specs.Values.{owner_words}
-use borrow.Author.Rules.{rules}
 use Rattle.ledger_calls.proofs.values.owner_words.Goals as goal
 
 pub returns-in-None : goal.returns-in-None

@@ -1,5 +1,4 @@
 use Rattle.ledger_calls.specs.Values.{path_words}
-use borrow.Author.Rules.{rules}
 use Rattle.ledger_calls.proofs.values.path_words.Goals as goal
 
 pub returns-in-Relayed : goal.returns-in-Relayed

@@ -1,5 +1,4 @@
 use Rattle.ledger_calls.specs.Values.{purpose_words}
-use borrow.Author.Rules.{rules}
 use Rattle.ledger_calls.proofs.values.purpose_words.Goals as goal
 
 pub returns-in-Relay : goal.returns-in-Relay

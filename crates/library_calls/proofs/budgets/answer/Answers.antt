@@ -1,4 +1,3 @@
-use borrow.Author.Rules.{rules}
 use Rattle.library_calls.specs.Budgets.{budgets_table}
 use Rattle.library_calls.proofs.budgets.answer.Goals as goal
 

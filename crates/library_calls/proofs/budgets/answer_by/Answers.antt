@@ -1,5 +1,4 @@
 use Rattle.call_table.proofs.Calling.{found_as}
-use borrow.Author.Rules.{rules}
 use Rattle.text.proofs.Printing.{laid, parts, laid_none}
 use Rattle.line_program.proofs.Answers.{renamed}
 use Rattle.library_calls.proofs.Budgeting.{found_turn, found_text, none_turn, none_text}

@@ -1,7 +1,6 @@
 use mathlib.Core.Path.{sym}
 use Rattle.library_calls.specs.Budgets.{armed_turn}
 use borrow.Author.Tests.{eq-eqb, ne_eqb}
-use borrow.Author.Rules.{rules}
 use Rattle.library_calls.proofs.budgets.armed.Goals as goal
 
 pub returns-then-row-eq1 : goal.returns-then-row-eq1

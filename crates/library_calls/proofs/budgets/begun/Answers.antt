@@ -1,5 +1,4 @@
 use mathlib.Core.Path.{◌∙◌}
-use borrow.Author.Rules.{rules}
 use Rattle.library_calls.specs.Budgets.{begun_turn}
 use Rattle.library_calls.proofs.budgets.begun.Goals as goal
 

@@ -1,5 +1,4 @@
 use mathlib.Core.Path.{sym}
-use borrow.Author.Rules.{rules}
 use Rattle.library_calls.proofs.budgets.kept_turn.Goals as goal
 
 pub returns-in-Unarmed : goal.returns-in-Unarmed

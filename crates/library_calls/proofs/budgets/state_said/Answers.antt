@@ -1,5 +1,4 @@
 use mathlib.Core.Path.{◌∙◌}
-use borrow.Author.Rules.{rules}
 use Rattle.library_calls.specs.Budgets.{state_said}
 use Rattle.library_calls.proofs.budgets.state_said.Goals as goal
 

@@ -1,4 +1,3 @@
-use borrow.Author.Rules.{rules}
 use Rattle.library_calls.specs.Choices.{choices_table}
 use Rattle.library_calls.proofs.choices.answer.Goals as goal
 

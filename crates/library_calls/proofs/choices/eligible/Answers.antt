@@ -1,5 +1,4 @@
 use mathlib.Core.Path.{sym}
-use borrow.Author.Rules.{rules}
 use Rattle.library_calls.proofs.choices.eligible.Goals as goal
 
 pub returns-in-Address : goal.returns-in-Address

@@ -1,5 +1,4 @@
 use mathlib.Core.Path.{◌∙◌}
-use borrow.Author.Rules.{rules}
 use borrow.Author.Tests.{eq-eqb, ne_eqb}
 use Rattle.library_calls.specs.Choices.{choice_said}
 use Rattle.library_calls.proofs.choices.respond.Goals as goal

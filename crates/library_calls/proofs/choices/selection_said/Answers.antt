@@ -1,5 +1,4 @@
 use mathlib.Core.Path.{◌∙◌}
-use borrow.Author.Rules.{rules}
 use Rattle.library_calls.proofs.Choosing.{kept_shown, refused_said}
 use Rattle.library_calls.proofs.choices.selection_said.Goals as goal
 

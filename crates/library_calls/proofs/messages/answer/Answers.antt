@@ -1,4 +1,3 @@
-use borrow.Author.Rules.{rules}
 use Rattle.library_calls.specs.Messages.{messages_table}
 use Rattle.library_calls.proofs.messages.answer.Goals as goal
 

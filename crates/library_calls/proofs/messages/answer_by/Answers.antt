@@ -1,4 +1,3 @@
-use borrow.Author.Rules.{rules}
 use native.Mathlib.Omega.{arith}
 use lib.ListN.{length-take}
 use Rattle.text.proofs.Printing.{laid, parts}
@@ -17,6 +16,6 @@ pub returns : goal.returns
 returns c =
     record {
       found = found_by _ _ c.call_of-c.ensures c.put_answer.ensures.found;
-      bytes = (parts (renamed (by_table _ _ c.call_of-c.ensures c.bytes_in-b.ensures c.respond-said.ensures) (laid _ _ _ c.put_answer.ensures.bytes))).0;
-      place = (parts (renamed (by_table _ _ c.call_of-c.ensures c.bytes_in-b.ensures c.respond-said.ensures) (laid _ _ _ c.put_answer.ensures.bytes))).1;
+      bytes = (parts (renamed (by_table _ _ c.call_of-c.ensures c.bytes_in-b.ensures c.respond-said.ensures) (laid _ _ _ (c.put_answer.ensures.bytes, c.put_answer.ensures.place)))).0;
+      place = (parts (renamed (by_table _ _ c.call_of-c.ensures c.bytes_in-b.ensures c.respond-said.ensures) (laid _ _ _ (c.put_answer.ensures.bytes, c.put_answer.ensures.place)))).1;
     }

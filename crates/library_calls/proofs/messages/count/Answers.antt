@@ -1,10 +1,7 @@
-use mathlib.Core.Path.{◌≡◌, ap}
-use Prim.Native.Nat.{◌+◌, ◌-◌, ◌≤◌}
+use mathlib.Core.Path.{ap}
 use native.Mathlib.Omega.{arith}
-use lib.ListN.{length, drop}
-use Rattle.wire.specs.Lists.{entries}
+use lib.ListN.{length}
 use Rattle.wire.proofs.Entries.{stands, entries_address, entries_end, entries_break}
-use borrow.Author.Rules.{rules}
 use Rattle.library_calls.proofs.messages.count.Goals as goal
 
 pub loop-end-init : goal.loop-end-init

@@ -1,10 +1,7 @@
-use mathlib.Core.Path.{◌≡◌, ap}
+use mathlib.Core.Path.{◌≡◌}
 use Prim.Native.Nat.{◌+◌, ◌-◌, ◌≤◌}
-use native.Mathlib.Omega.{arith}
 use lib.ListN.{length, drop}
 use Rattle.wire.specs.Lists.{entries}
-use Rattle.wire.proofs.Entries.{stands, entries_address, entries_end, entries_break}
-use borrow.Author.Rules.{rules}
 use Rattle.library_calls.proofs.messages.count.Given as goal
 
 abbrev pub invariant-loop-end : goal.invariant-loop-end

@@ -1,5 +1,4 @@
 use mathlib.Core.Path.{sym}
-use borrow.Author.Rules.{rules}
 use Rattle.library_calls.proofs.messages.decoded_said.Goals as goal
 
 pub returns-in-Message : goal.returns-in-Message

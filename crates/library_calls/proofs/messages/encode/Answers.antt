@@ -1,4 +1,3 @@
-use borrow.Author.Rules.{rules}
 use mathlib.Core.Path.{◌∙◌}
 use Rattle.library_calls.proofs.Messaging.{encode_shown}
 use Rattle.library_calls.proofs.messages.encode.Goals as goal

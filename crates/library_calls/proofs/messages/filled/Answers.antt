@@ -1,5 +1,4 @@
 use mathlib.Core.Path.{refl}
-use Prim.Native.Nat.{◌-◌}
 use Rattle.library_calls.specs.Messages.{filler}
 use Rattle.library_calls.proofs.messages.filled.Goals as goal
 

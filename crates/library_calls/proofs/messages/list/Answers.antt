@@ -1,6 +1,5 @@
 use mathlib.Core.Path.{sym}
 use Rattle.library_calls.specs.Messages.{list_said}
-use borrow.Author.Rules.{rules}
 use Rattle.library_calls.proofs.messages.list.Goals as goal
 
 pub returns-then-is_broken : goal.returns-then-is_broken

@@ -1,4 +1,3 @@
-use borrow.Author.Rules.{rules}
 use native.Mathlib.Omega.{arith}
 use mathlib.Core.Path.{◌∙◌}
 use lib.ListN.{length-take}
@@ -12,4 +11,4 @@ pub slice_bounds-decode-end : goal.slice_bounds-decode-end
 slice_bounds-decode-end c = simp length-take (omega (arith, filled_length c.filled-buffer.ensures))
 
 pub returns : goal.returns
-returns c = c.decoded_said.ensures ∙ read_shown _ _ c.if-room-gt-ROOM.false c.filled-buffer.ensures c.decode-d.auto.1.0 c.decode-d.ensures.answer c.decode-d.ensures.stored
+returns c = c.decoded_said.ensures ∙ read_shown _ _ c.if-room-gt-ROOM.false c.filled-buffer.ensures c.decode-d.auto.out c.decode-d.ensures.answer c.decode-d.ensures.stored

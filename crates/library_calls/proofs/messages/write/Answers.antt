@@ -1,4 +1,3 @@
-use borrow.Author.Rules.{rules}
 use native.Mathlib.Omega.{arith}
 use mathlib.Core.Path.{◌∙◌}
 use lib.ListN.{length-take}
@@ -12,4 +11,4 @@ pub slice_bounds-encode-end : goal.slice_bounds-encode-end
 slice_bounds-encode-end c = simp length-take (omega (arith, filled_length c.filled-buffer.ensures))
 
 pub returns : goal.returns
-returns c = c.encoded_said.ensures ∙ write_shown _ _ c.if-room-gt-ROOM.false c.filled-buffer.ensures c.encode-e.auto.1.1.0 _ c.encode-e.ensures.answer c.encode-e.ensures.stored
+returns c = c.encoded_said.ensures ∙ write_shown _ _ c.if-room-gt-ROOM.false c.filled-buffer.ensures c.encode-e.auto.out _ c.encode-e.ensures.answer c.encode-e.ensures.stored

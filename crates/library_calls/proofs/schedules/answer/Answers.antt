@@ -1,4 +1,3 @@
-use borrow.Author.Rules.{rules}
 use Rattle.library_calls.specs.Schedules.{schedules_table}
 use Rattle.library_calls.proofs.schedules.answer.Goals as goal
 

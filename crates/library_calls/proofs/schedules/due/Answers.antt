@@ -1,5 +1,4 @@
 use mathlib.Core.Path.{sym}
-use borrow.Author.Rules.{rules}
 use Rattle.library_calls.proofs.schedules.due.Goals as goal
 
 pub returns : goal.returns

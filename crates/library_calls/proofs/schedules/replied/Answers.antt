@@ -1,6 +1,5 @@
 use mathlib.Core.Path.{sym}
 use Rattle.library_calls.specs.Schedules.{replied_turn}
-use borrow.Author.Rules.{rules}
 use Rattle.library_calls.proofs.schedules.replied.Goals as goal
 
 pub returns : goal.returns

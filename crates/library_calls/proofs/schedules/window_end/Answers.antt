@@ -1,6 +1,5 @@
 use mathlib.Core.Path.{sym}
 use Rattle.library_calls.specs.Schedules.{end_of}
-use borrow.Author.Rules.{rules}
 use Rattle.library_calls.proofs.schedules.window_end.Goals as goal
 
 pub returns : goal.returns
