@@ -9,12 +9,6 @@ pub slice_bounds-answer_line-end-then-is_line : goal.slice_bounds-answer_line-en
 slice_bounds-answer_line-end-then-is_line c = simp length-take (omega (arith, c.next_line-s.ensures.used))
 
 pub returns-then-is_line : goal.returns-then-is_line
-<<<<<<< HEAD
-returns-then-is_line c = record { kept = (step_told (as_told _ (step_line c.args.kept _ _ c.next_line-s.result c.is_line.ensures c.if-is_line.true) (c.answer_line-a.ensures.kept, (c.answer_line-a.ensures.words, (c.answer_line-a.ensures.bytes, c.answer_line-a.ensures.place)))) c.next_line-s.ensures.read).0; words = (step_told (as_told _ (step_line c.args.kept _ _ c.next_line-s.result c.is_line.ensures c.if-is_line.true) (c.answer_line-a.ensures.kept, (c.answer_line-a.ensures.words, (c.answer_line-a.ensures.bytes, c.answer_line-a.ensures.place)))) c.next_line-s.ensures.read).1.0; out = (step_told (as_told _ (step_line c.args.kept _ _ c.next_line-s.result c.is_line.ensures c.if-is_line.true) (c.answer_line-a.ensures.kept, (c.answer_line-a.ensures.words, (c.answer_line-a.ensures.bytes, c.answer_line-a.ensures.place)))) c.next_line-s.ensures.read).1.1.0; handed = (step_told (as_told _ (step_line c.args.kept _ _ c.next_line-s.result c.is_line.ensures c.if-is_line.true) (c.answer_line-a.ensures.kept, (c.answer_line-a.ensures.words, (c.answer_line-a.ensures.bytes, c.answer_line-a.ensures.place)))) c.next_line-s.ensures.read).1.1.1.0; read = (step_told (as_told _ (step_line c.args.kept _ _ c.next_line-s.result c.is_line.ensures c.if-is_line.true) (c.answer_line-a.ensures.kept, (c.answer_line-a.ensures.words, (c.answer_line-a.ensures.bytes, c.answer_line-a.ensures.place)))) c.next_line-s.ensures.read).1.1.1.1 }
-
-pub returns : goal.returns
-returns c = record { kept = (step_told (told _ (step_none c.args.kept _ _ c.next_line-s.result c.is_line.ensures c.if-is_line.false) (laid_none _ 0)) c.next_line-s.ensures.read).0; words = (step_told (told _ (step_none c.args.kept _ _ c.next_line-s.result c.is_line.ensures c.if-is_line.false) (laid_none _ 0)) c.next_line-s.ensures.read).1.0; out = (step_told (told _ (step_none c.args.kept _ _ c.next_line-s.result c.is_line.ensures c.if-is_line.false) (laid_none _ 0)) c.next_line-s.ensures.read).1.1.0; handed = (step_told (told _ (step_none c.args.kept _ _ c.next_line-s.result c.is_line.ensures c.if-is_line.false) (laid_none _ 0)) c.next_line-s.ensures.read).1.1.1.0; read = (step_told (told _ (step_none c.args.kept _ _ c.next_line-s.result c.is_line.ensures c.if-is_line.false) (laid_none _ 0)) c.next_line-s.ensures.read).1.1.1.1 }
-=======
 returns-then-is_line c =
     let a = c.answer_line-a.ensures in
     let t = as_told _ (step_line c.args.kept _ _ c.next_line-s.result c.is_line.ensures c.if-is_line.true) (a.kept, (a.words, (a.bytes, a.place))) in
@@ -24,4 +18,3 @@ pub returns : goal.returns
 returns c =
     let t = told _ (step_none c.args.kept _ _ c.next_line-s.result c.is_line.ensures c.if-is_line.false) (laid_none _ 0) in
     record { kept = t.0; words = t.1.0; out = t.1.1.0; handed = t.1.1.1; read = c.next_line-s.ensures.read }
->>>>>>> e2f9623503d6c4189706eabc8783f51c188652d6
