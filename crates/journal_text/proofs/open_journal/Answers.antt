@@ -12,8 +12,8 @@ returns-in-Settings c =
     record {
       good = simp (c.in-Settings.is, sym c.read_first-first.ensures);
       state = c.new_journal-state.ensures ∙ ap (λ (x : Settings). state_of (new_journal x)) (c.settings_in-settings.ensures ∙ ap settings_in c.read_first-first.ensures);
-      bytes = (simp (c.in-Settings.is, sym c.read_first-first.ensures) (parts (laid_none _ _))).0;
-      place = (simp (c.in-Settings.is, sym c.read_first-first.ensures) (parts (laid_none _ _))).1;
+      bytes = simp (c.in-Settings.is, sym c.read_first-first.ensures) ((parts (laid_none _ _)).0);
+      place = simp (c.in-Settings.is, sym c.read_first-first.ensures) ((parts (laid_none _ _)).1);
     }
 
 pub returns-in-Unknown : goal.returns-in-Unknown
@@ -22,6 +22,6 @@ returns-in-Unknown c =
     record {
       good = simp (c.in-Unknown.is, sym c.read_first-first.ensures);
       state = c.new_journal-state.ensures ∙ ap (λ (x : Settings). state_of (new_journal x)) (c.settings_in-settings.ensures ∙ ap settings_in c.read_first-first.ensures);
-      bytes = (simp (c.in-Unknown.is, sym c.read_first-first.ensures) (c.put_refused-p.ensures.bytes, c.put_refused-p.ensures.place)).0;
-      place = (simp (c.in-Unknown.is, sym c.read_first-first.ensures) (c.put_refused-p.ensures.bytes, c.put_refused-p.ensures.place)).1;
+      bytes = simp (c.in-Unknown.is, sym c.read_first-first.ensures) c.put_refused-p.ensures.bytes;
+      place = simp (c.in-Unknown.is, sym c.read_first-first.ensures) c.put_refused-p.ensures.place;
     }
