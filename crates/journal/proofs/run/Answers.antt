@@ -1,6 +1,5 @@
 use mathlib.Core.Path.{◌≡◌, refl, sym, ◌∙◌}
 use mathlib.Core.List.{List}
-use mathlib.Core.Logic.{⊎_elim}
 use Prim.Native.Nat.{ℕ, ◌+◌, ◌*◌, ◌≤◌}
 use native.Mathlib.Omega.{arith}
 use lib.ListN.{length}
@@ -15,6 +14,7 @@ use Rattle.journal.proofs.Stepping.{step_room}
 use Rattle.journal.proofs.Running.{Going, begin, going, finished}
 use borrow.Author.Rules.{rules}
 use Rattle.journal.proofs.run.Goals as goal
+use Rattle.journal.proofs.run.Goals.{then-loop-turns-test+then-s+else-s-2, then-loop-turns-test+else-s, else-loop-turns-test}
 
 pub loop-turns-init : goal.loop-turns-init
 loop-turns-init c = (refl, refl, refl, refl, omega (arith, c.take_step-s.auto.line, c.requires), step_room _ _ _ _ _ _ _ c.take_step-s.ensures.waiting (sym c.take_step-s.auto.out) (omega (arith, c.take_step-s.auto.out, c.requires)), λ before had g. g)
@@ -41,4 +41,8 @@ pub shape_of-out : goal.shape_of-out
 shape_of-out c = c.loop-turns.invariant.3 ∙ c.take_step-s.auto.out
 
 pub returns : goal.returns
-returns c = record { bound = omega (arith, c.loop-turns.invariant.3, c.loop-turns.invariant.5, c.take_step-s.auto.out); ran = finished _ _ (c.loop-turns.invariant.6 _ _ (going (begin _ _ _ _ max_u64 (omega arith)) c.requires.0 c.requires.1 _ (c.take_step-s.ensures.journal, (c.take_step-s.ensures.reply, (c.take_step-s.ensures.out, (c.take_step-s.ensures.waiting, (c.take_step-s.ensures.whole, (c.take_step-s.ensures.written, c.take_step-s.ensures.read)))))) _ (omega arith))) (λ e v. ⊎_elim (λ x. apart (sym v ∙ x.2.left)) (λ y. ⊎_elim (λ x. apart (sym e ∙ x.1.left)) (λ x. omega (arith, x)) y) c.loop-turns-test.branch) }
+returns c = record { bound = omega (arith, c.loop-turns.invariant.3, c.loop-turns.invariant.5, c.take_step-s.auto.out); ran = finished _ _ (c.loop-turns.invariant.6 _ _ (going (begin _ _ _ _ max_u64 (omega arith)) c.requires.0 c.requires.1 _ (c.take_step-s.ensures.journal, (c.take_step-s.ensures.reply, (c.take_step-s.ensures.out, (c.take_step-s.ensures.waiting, (c.take_step-s.ensures.whole, (c.take_step-s.ensures.written, c.take_step-s.ensures.read)))))) _ (omega arith))) (λ e v. elim c.loop-turns-test.branch [
+      then-loop-turns-test+then-s+else-s-2 w ↦ apart (sym v ∙ w.if-s-2.false)
+    | then-loop-turns-test+else-s w ↦ apart (sym e ∙ w.if-s.false)
+    | else-loop-turns-test w ↦ omega arith
+    ]) }

@@ -14,7 +14,27 @@ pub shape_of-block-then-is_line : goal.shape_of-block-then-is_line
 shape_of-block-then-is_line c = c.next_line-s.auto.block
 
 pub returns-then-is_line : goal.returns-then-is_line
-returns-then-is_line c = record { journal = (step_made _ _ _ (whole c.args.j c.args.connect.now c.args.targets.now (tables_of c.args.ledger.now) c.args.ledger.now c.args.sent.now) _ _ _ (sym c.is_line.ensures ∙ c.if-is_line.true) (c.hand_over-w.ensures.bytes, c.hand_over-w.ensures.written) (c.answer_line-a.ensures.journal, (c.answer_line-a.ensures.reply, (c.answer_line-a.ensures.bytes, (c.answer_line-a.ensures.place, c.answer_line-a.ensures.whole)))) c.next_line-s.ensures.read).0; reply = (step_made _ _ _ (whole c.args.j c.args.connect.now c.args.targets.now (tables_of c.args.ledger.now) c.args.ledger.now c.args.sent.now) _ _ _ (sym c.is_line.ensures ∙ c.if-is_line.true) (c.hand_over-w.ensures.bytes, c.hand_over-w.ensures.written) (c.answer_line-a.ensures.journal, (c.answer_line-a.ensures.reply, (c.answer_line-a.ensures.bytes, (c.answer_line-a.ensures.place, c.answer_line-a.ensures.whole)))) c.next_line-s.ensures.read).1.0; out = (step_made _ _ _ (whole c.args.j c.args.connect.now c.args.targets.now (tables_of c.args.ledger.now) c.args.ledger.now c.args.sent.now) _ _ _ (sym c.is_line.ensures ∙ c.if-is_line.true) (c.hand_over-w.ensures.bytes, c.hand_over-w.ensures.written) (c.answer_line-a.ensures.journal, (c.answer_line-a.ensures.reply, (c.answer_line-a.ensures.bytes, (c.answer_line-a.ensures.place, c.answer_line-a.ensures.whole)))) c.next_line-s.ensures.read).1.1.0; waiting = (step_made _ _ _ (whole c.args.j c.args.connect.now c.args.targets.now (tables_of c.args.ledger.now) c.args.ledger.now c.args.sent.now) _ _ _ (sym c.is_line.ensures ∙ c.if-is_line.true) (c.hand_over-w.ensures.bytes, c.hand_over-w.ensures.written) (c.answer_line-a.ensures.journal, (c.answer_line-a.ensures.reply, (c.answer_line-a.ensures.bytes, (c.answer_line-a.ensures.place, c.answer_line-a.ensures.whole)))) c.next_line-s.ensures.read).1.1.1.0; whole = (step_made _ _ _ (whole c.args.j c.args.connect.now c.args.targets.now (tables_of c.args.ledger.now) c.args.ledger.now c.args.sent.now) _ _ _ (sym c.is_line.ensures ∙ c.if-is_line.true) (c.hand_over-w.ensures.bytes, c.hand_over-w.ensures.written) (c.answer_line-a.ensures.journal, (c.answer_line-a.ensures.reply, (c.answer_line-a.ensures.bytes, (c.answer_line-a.ensures.place, c.answer_line-a.ensures.whole)))) c.next_line-s.ensures.read).1.1.1.1.0; written = (step_made _ _ _ (whole c.args.j c.args.connect.now c.args.targets.now (tables_of c.args.ledger.now) c.args.ledger.now c.args.sent.now) _ _ _ (sym c.is_line.ensures ∙ c.if-is_line.true) (c.hand_over-w.ensures.bytes, c.hand_over-w.ensures.written) (c.answer_line-a.ensures.journal, (c.answer_line-a.ensures.reply, (c.answer_line-a.ensures.bytes, (c.answer_line-a.ensures.place, c.answer_line-a.ensures.whole)))) c.next_line-s.ensures.read).1.1.1.1.1.0; read = (step_made _ _ _ (whole c.args.j c.args.connect.now c.args.targets.now (tables_of c.args.ledger.now) c.args.ledger.now c.args.sent.now) _ _ _ (sym c.is_line.ensures ∙ c.if-is_line.true) (c.hand_over-w.ensures.bytes, c.hand_over-w.ensures.written) (c.answer_line-a.ensures.journal, (c.answer_line-a.ensures.reply, (c.answer_line-a.ensures.bytes, (c.answer_line-a.ensures.place, c.answer_line-a.ensures.whole)))) c.next_line-s.ensures.read).1.1.1.1.1.1 }
+returns-then-is_line c =
+    let t = step_made c.next_line-s.result c.next_line-s.new.block c.next_line-s.new.line (whole c.args.j c.args.connect.now c.args.targets.now (tables_of c.args.ledger.now) c.args.ledger.now c.args.sent.now) c.args.reply.now c.args.out.now c.args.waiting (sym c.is_line.ensures ∙ c.if-is_line.true) (c.hand_over-w.ensures.bytes, c.hand_over-w.ensures.written) (c.answer_line-a.ensures.journal, (c.answer_line-a.ensures.reply, (c.answer_line-a.ensures.bytes, (c.answer_line-a.ensures.place, c.answer_line-a.ensures.whole)))) c.next_line-s.ensures.read in
+    record {
+      journal = t.0;
+      reply = t.1.0;
+      out = t.1.1.0;
+      waiting = t.1.1.1.0;
+      whole = t.1.1.1.1.0;
+      written = t.1.1.1.1.1.0;
+      read = t.1.1.1.1.1.1;
+    }
 
 pub returns : goal.returns
-returns c = record { journal = (step_left _ _ _ (whole c.args.j c.args.connect.now c.args.targets.now (tables_of c.args.ledger.now) c.args.ledger.now c.args.sent.now) _ _ _ (sym c.is_line.ensures ∙ c.if-is_line.false) c.next_line-s.ensures.read).0; reply = (step_left _ _ _ (whole c.args.j c.args.connect.now c.args.targets.now (tables_of c.args.ledger.now) c.args.ledger.now c.args.sent.now) _ _ _ (sym c.is_line.ensures ∙ c.if-is_line.false) c.next_line-s.ensures.read).1.0; out = (step_left _ _ _ (whole c.args.j c.args.connect.now c.args.targets.now (tables_of c.args.ledger.now) c.args.ledger.now c.args.sent.now) _ _ _ (sym c.is_line.ensures ∙ c.if-is_line.false) c.next_line-s.ensures.read).1.1.0; waiting = (step_left _ _ _ (whole c.args.j c.args.connect.now c.args.targets.now (tables_of c.args.ledger.now) c.args.ledger.now c.args.sent.now) _ _ _ (sym c.is_line.ensures ∙ c.if-is_line.false) c.next_line-s.ensures.read).1.1.1.0; whole = (step_left _ _ _ (whole c.args.j c.args.connect.now c.args.targets.now (tables_of c.args.ledger.now) c.args.ledger.now c.args.sent.now) _ _ _ (sym c.is_line.ensures ∙ c.if-is_line.false) c.next_line-s.ensures.read).1.1.1.1.0; written = (step_left _ _ _ (whole c.args.j c.args.connect.now c.args.targets.now (tables_of c.args.ledger.now) c.args.ledger.now c.args.sent.now) _ _ _ (sym c.is_line.ensures ∙ c.if-is_line.false) c.next_line-s.ensures.read).1.1.1.1.1.0; read = (step_left _ _ _ (whole c.args.j c.args.connect.now c.args.targets.now (tables_of c.args.ledger.now) c.args.ledger.now c.args.sent.now) _ _ _ (sym c.is_line.ensures ∙ c.if-is_line.false) c.next_line-s.ensures.read).1.1.1.1.1.1 }
+returns c =
+    let t = step_left c.next_line-s.result c.next_line-s.new.block c.next_line-s.new.line (whole c.args.j c.args.connect.now c.args.targets.now (tables_of c.args.ledger.now) c.args.ledger.now c.args.sent.now) c.args.reply.now c.args.out.now c.args.waiting (sym c.is_line.ensures ∙ c.if-is_line.false) c.next_line-s.ensures.read in
+    record {
+      journal = t.0;
+      reply = t.1.0;
+      out = t.1.1.0;
+      waiting = t.1.1.1.0;
+      whole = t.1.1.1.1.0;
+      written = t.1.1.1.1.1.0;
+      read = t.1.1.1.1.1.1;
+    }
