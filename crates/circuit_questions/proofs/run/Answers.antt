@@ -1,6 +1,5 @@
 use mathlib.Core.Path.{◌≡◌, refl, sym, ◌∙◌}
 use mathlib.Core.List.{List}
-use mathlib.Core.Logic.{⊎_elim}
 use Prim.Native.Nat.{ℕ, ◌≤◌}
 use native.Mathlib.Omega.{arith}
 use lib.ListN.{length}
@@ -13,6 +12,7 @@ use Rattle.circuit_questions.specs.Steps.{State, state}
 use Rattle.circuit_questions.proofs.Running.{Going, begin, going, finished}
 use borrow.Author.Rules.{rules}
 use Rattle.circuit_questions.proofs.run.Goals as goal
+use Rattle.circuit_questions.proofs.run.Goals.{then-loop-turns-test+then-s+else-s-2, then-loop-turns-test+else-s, else-loop-turns-test}
 
 pub loop-turns-init : goal.loop-turns-init
 loop-turns-init c = (refl, refl, refl, refl, omega (arith, c.take_step-s.auto.line, c.requires), λ before had g. g)
@@ -49,4 +49,8 @@ pub returns : goal.returns
 returns c =
     finished _ _
     (c.loop-turns.invariant.5 _ _ (going (begin _ _ max_u64 (omega arith)) c.requires _ (c.take_step-s.ensures.made, (c.take_step-s.ensures.written, c.take_step-s.ensures.read)) _ (omega arith)))
-    (λ e v. ⊎_elim (λ x. apart (sym v ∙ x.2.left)) (λ y. ⊎_elim (λ x. apart (sym e ∙ x.1.left)) (λ x. omega (arith, x)) y) c.loop-turns-test.branch)
+    (λ e v. elim c.loop-turns-test.branch [
+      then-loop-turns-test+then-s+else-s-2 w ↦ apart (sym v ∙ w.if-s-2.false)
+    | then-loop-turns-test+else-s w ↦ apart (sym e ∙ w.if-s.false)
+    | else-loop-turns-test w ↦ omega arith
+    ])
