@@ -15,9 +15,9 @@ loop-i-init c = (omega arith, refl)
 
 pub loop-i-preserved : goal.loop-i-preserved
 loop-i-preserved c = elim c.if-text-i.branch [
-    then-text-i w ↦ (omega arith, found_here _ _ _ c.loop-i.found c.loop-i.invariant.1 c.loop-i-test.true w.if-text-i.true ∙ rw w.found-is)
+  | then-text-i w ↦ (omega arith, found_here _ _ _ c.loop-i.found c.loop-i.invariant.1 c.loop-i-test.true w.if-text-i.true ∙ rw w.found-is)
   | else-text-i w ↦ (omega arith, not_here _ _ _ c.loop-i.found c.loop-i.invariant.1 c.loop-i-test.true w.if-text-i.false ∙ rw w.found-is)
-  ]
+]
 
 pub returns : goal.returns
 returns c = searched _ _ _ c.loop-i.found c.loop-i.invariant.1 c.loop-i-test.false

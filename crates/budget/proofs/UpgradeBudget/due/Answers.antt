@@ -18,6 +18,6 @@ pub returns-in-Running : goal.returns-in-Running
 returns-in-Running c =
     c.upgrade_due.ensures
     ∙ elim c.else-end-now.branch [
-      else-end-now-via-then-end-now+else-end-self w ↦ cut_due _ _ _ _ c.in-Running.is w.if-end-now.true (le-ltb _ _ w.if-end-self.false)
-    | else-end-now-via-else-end-now w ↦ running_due _ _ _ _ c.in-Running.is w.if-end-now.false
+      | else-end-now-via-then-end-now+else-end-self w ↦ cut_due _ _ _ _ c.in-Running.is w.if-end-now.true (le-ltb _ _ w.if-end-self.false)
+      | else-end-now-via-else-end-now w ↦ running_due _ _ _ _ c.in-Running.is w.if-end-now.false
     ]
