@@ -1,11 +1,5 @@
-use mathlib.Core.Path.{◌≡◌, refl, ◌∙◌}
-use mathlib.Core.Logic.{⊎_elim}
-use Prim.Native.Nat.{◌≤◌, ◌-◌}
+use mathlib.Core.Path.{refl, ◌∙◌}
 use native.Mathlib.Omega.{arith}
-use lib.ListN.{length, drop}
-use Rattle.prelude.specs.Choice.{either}
-use Rattle.text.specs.Words.{has_byte}
-use borrow.Author.Rules.{rules}
 use Rattle.text.proofs.Reading.{found_here, not_here, searched}
 use Rattle.text.proofs.has.Goals as goal
 use Rattle.text.proofs.has.Goals.{then-text-i, else-text-i}

@@ -1,12 +1,8 @@
-use mathlib.Core.Path.{◌≡◌, refl, sym, ◌∙◌}
-use mathlib.Core.Logic.{⊎_elim}
-use Prim.Native.Nat.{◌≤◌, ◌-◌, ◌/◌}
+use mathlib.Core.Path.{refl, sym, ◌∙◌}
+use Prim.Native.Nat.{◌/◌}
 use native.Mathlib.Omega.{arith}
-use lib.ListN.{length, drop}
-use lib.Dec.{ltb}
-use Rattle.prelude.specs.Choice.{both}
-use borrow.Author.Rules.{rules}
-use Rattle.text.proofs.Reading.{all_digits, odd, even_digits, greater_digit, no_greater_digit, digits_end}
+use lib.ListN.{length}
+use Rattle.text.proofs.Reading.{odd, even_digits, greater_digit, no_greater_digit, digits_end}
 use Rattle.text.proofs.is_hexadecimal.Goals as goal
 use Rattle.text.proofs.is_hexadecimal.Goals.{then-most-d, else-most-d}
 
