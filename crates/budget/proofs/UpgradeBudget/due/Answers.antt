@@ -2,7 +2,6 @@ use Rattle.budget.specs.Budget.{due_at}
 use mathlib.Core.Path.{sym, ◌∙◌}
 use Rattle.budget.proofs.Laws.{exchange_due, cut_due, running_due}
 use borrow.Author.Tests.{lt-ltb, le-ltb}
-use borrow.Author.Rules.{rules}
 use Rattle.budget.proofs.UpgradeBudget.due.Goals as goal
 use Rattle.budget.proofs.UpgradeBudget.due.Goals.{else-end-now-via-then-end-now+else-end-self, else-end-now-via-else-end-now}
 
