@@ -1,17 +1,16 @@
 -- The parts of an address, joined, are read as what they stand for. Assumes nothing.
-use mathlib.Core.Path.{◌≡◌, refl, sym, ap, ◌∙◌}
+use mathlib.Core.Path.{◌≡◌, refl, ap, ◌∙◌}
 use mathlib.Core.Bool.{Bool, true, false}
 use mathlib.Core.List.{List, [], ◌∷◌, ◌++◌, append_assoc}
-use Prim.Native.Nat.{ℕ, suc, ◌+◌, ◌-◌, ◌≤◌}
+use Prim.Native.Nat.{ℕ, suc, ◌+◌}
 use native.Mathlib.Omega.{arith}
 use borrow.Author.Tests.{eq-eqb, ne_eqb, le-leb}
 use lib.Dec.{eqb, leb}
 use lib.ListN.{length, get_or, take, drop, length-append}
 use lib.Seq.{take-append_seam, drop-append-add, drop_at, get_or-append-add}
 use Rattle.prelude.specs.Choice.{both}
-use Rattle.address.specs.Multiaddr.{big_endian, number, is_name, ends_well, has_form, parsed}
+use Rattle.address.specs.Multiaddr.{big_endian, is_name, ends_well, has_form, parsed}
 use Rattle.address.specs.declared.Ip.{Ip}
-use Rattle.address.specs.declared.Ip.TheVariants.{V4, V6}
 use Rattle.address.specs.declared.Parsed.TheVariants.{Address}
 use Rattle.address_laws.specs.Bytes.{Ending, bare, named, joined, Stands, v4, v6}
 

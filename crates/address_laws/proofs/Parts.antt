@@ -2,7 +2,7 @@
 use mathlib.Core.Path.{◌≡◌, refl, sym, ap, subst, ◌∙◌}
 use mathlib.Core.Bool.{Bool, true, false}
 use mathlib.Core.List.{List, [], ◌∷◌, ◌++◌}
-use Prim.Native.Nat.{ℕ, suc, ◌+◌, ◌-◌, ◌<◌, ◌≤◌}
+use Prim.Native.Nat.{ℕ, ◌+◌, ◌<◌, ◌≤◌}
 use native.Mathlib.Omega.{arith}
 use native.Mathlib.Numerals.{add-one}
 use borrow.Author.Tests.{eqb-true, leb-true}
@@ -10,11 +10,10 @@ use lib.Dec.{eqb, leb}
 use lib.ListN.{length, get_or, take, drop, length-take, length-drop, take-append-drop}
 use lib.Seq.{drop-cons, drop-drop, take-add}
 use Rattle.prelude.specs.Choice.{pick, both}
-use Rattle.address.specs.Multiaddr.{big_endian, number, is_name, ends_well, has_form, parsed}
+use Rattle.address.specs.Multiaddr.{number, is_name, ends_well, has_form, parsed}
 use Rattle.address.proofs.Digits.{both_first, both_second}
 use Rattle.address.specs.declared.Ip.{Ip}
 use Rattle.address.specs.declared.Ip.TheVariants.{V4, V6}
-use Rattle.address.specs.declared.Parsed.{Parsed}
 use Rattle.address.specs.declared.Parsed.TheVariants.{Address, Other}
 use Rattle.address_laws.specs.Bytes.{Ending, bare, named, joined, Stands, v4, v6}
 

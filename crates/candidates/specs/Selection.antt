@@ -1,5 +1,5 @@
 -- Which addresses are kept (RULES.md, section 7).
-use Rattle.std.specs.Prelude.{ℕ, ◌+◌, ◌-◌, ◌*◌, Bool, leb, ltb, length}
+use Rattle.std.specs.Prelude.{ℕ, ◌+◌, ◌*◌, Bool, leb, ltb, length}
 use mathlib.Core.List.{List, [], ◌∷◌, ◌++◌, foldl}
 use Rattle.prelude.specs.Lists.{padded, count, such}
 use Rattle.prelude.specs.Choice.{pick, both}

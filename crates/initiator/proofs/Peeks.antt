@@ -16,7 +16,7 @@ use Rattle.message.specs.declared.Kind.TheVariants.{Connect, Sync}
 use Rattle.message.specs.declared.Decoded.{Decoded}
 use Rattle.message.specs.declared.Decoded.TheVariants.{Message, Refused}
 use Rattle.refusal.specs.declared.Refusal.{Refusal}
-use Rattle.frames.specs.Gathering.{gathered, gathered_into}
+use Rattle.frames.specs.Gathering.{gathered}
 use Rattle.initiator.specs.Replies.{replied, message_at, reply_of, reply_into}
 use Rattle.frames.specs.declared.Gathered.{Gathered}
 use Rattle.initiator.specs.declared.Reply.{Reply}

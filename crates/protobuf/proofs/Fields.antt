@@ -9,7 +9,7 @@ use lib.Dec.{leb}
 use lib.ListN.{length, take, drop}
 use Rattle.wire.specs.Varint.{varint_of}
 use Rattle.wire.specs.declared.Varint.{Varint}
-use Rattle.wire.specs.declared.Varint.TheVariants.{Value, Malformed}
+use Rattle.wire.specs.declared.Varint.TheVariants.{Value}
 use borrow.Author.Tests.{le-ltb, le-leb, lt-leb, eq-eqb, ne_eqb}
 use Rattle.wire.proofs.Spans.{varint_size, rest_of}
 use Rattle.protobuf.specs.Fields.{max_field, bytes_field, payload_of, field_of}

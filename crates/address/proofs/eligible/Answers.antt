@@ -1,5 +1,4 @@
 use Rattle.address.proofs.Meaning.{judged}
-use borrow.Author.Rules.{rules}
 use Rattle.address.proofs.eligible.Goals as goal
 
 pub returns : goal.returns

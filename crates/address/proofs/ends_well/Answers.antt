@@ -1,5 +1,4 @@
 use Rattle.address.proofs.Digits.{nothing_behind, something_behind}
-use borrow.Author.Rules.{rules}
 use Rattle.address.proofs.ends_well.Goals as goal
 
 pub returns-then-s-eq0 : goal.returns-then-s-eq0

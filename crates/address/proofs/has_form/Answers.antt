@@ -3,7 +3,6 @@ use Rattle.address.proofs.Digits.{last_of_seven, rest_of}
 use Rattle.address.specs.Multiaddr.{has_form, ends_well}
 use borrow.Author.Tests.{le-leb, lt-leb, eq-eqb, ne_eqb}
 use mathlib.Core.Path.{ap, ◌∙◌}
-use borrow.Author.Rules.{rules}
 use Rattle.address.proofs.has_form.Goals as goal
 
 pub returns-then-s-end : goal.returns-then-s-end

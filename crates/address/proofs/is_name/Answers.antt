@@ -1,5 +1,4 @@
 use Rattle.address.proofs.Digits.{cut_name, other_code, other_code_2, no_bytes, too_many, by_length}
-use borrow.Author.Rules.{rules}
 use Rattle.address.proofs.is_name.Goals as goal
 
 pub returns-then-s-lt-NAME_HEAD : goal.returns-then-s-lt-NAME_HEAD

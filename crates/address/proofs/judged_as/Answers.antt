@@ -1,6 +1,5 @@
 use native.Mathlib.Omega.{arith}
 use borrow.Author.Tests.{eq-eqb, ne_eqb}
-use borrow.Author.Rules.{rules}
 use Rattle.address.proofs.judged_as.Goals as goal
 
 pub returns-then-l-eq65535 : goal.returns-then-l-eq65535

@@ -1,4 +1,3 @@
-use borrow.Author.Rules.{rules}
 use Rattle.address.proofs.lies_in.Goals as goal
 
 pub returns-in-Net4 : goal.returns-in-Net4

@@ -2,7 +2,6 @@ use mathlib.Core.Path.{subst}
 use native.Mathlib.Omega.{arith}
 use Prim.Native.Nat.{ℕ, ◌*◌, ◌^◌, ◌<◌}
 use Rattle.address.proofs.Digits.{part_long}
-use borrow.Author.Rules.{rules}
 use Rattle.address.proofs.number_at.Goals as goal
 
 pub returns : goal.returns

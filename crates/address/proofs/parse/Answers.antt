@@ -1,6 +1,5 @@
 use native.Mathlib.Omega.{arith}
 use Rattle.address.proofs.Digits.{address_long, parsed4, parsed6, parsed_other}
-use borrow.Author.Rules.{rules}
 use Rattle.address.proofs.parse.Goals as goal
 
 pub number_at-a-requires : goal.number_at-a-requires

@@ -1,7 +1,6 @@
 use mathlib.Core.Path.{sym, ◌∙◌}
 use native.Mathlib.Omega.{arith}
 use Rattle.address.proofs.LeadingBits.{lead_upper, lead_lower, lead_apart}
-use borrow.Author.Rules.{rules}
 use Rattle.address.proofs.same_leading_bits_128.Goals as goal
 
 pub returns-then-len-le64 : goal.returns-then-len-le64

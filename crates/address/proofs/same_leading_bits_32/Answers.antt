@@ -2,7 +2,6 @@ use mathlib.Core.Path.{sym}
 use native.Mathlib.Omega.{arith}
 use Rattle.address.specs.LeadingBits.{same_leading_bits}
 use Rattle.address.proofs.LeadingBits.{lead_none, lead_all, lead_mask}
-use borrow.Author.Rules.{rules}
 use Rattle.address.proofs.same_leading_bits_32.Goals as goal
 
 pub returns-then-len-eq0 : goal.returns-then-len-eq0

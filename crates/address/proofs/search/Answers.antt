@@ -1,8 +1,6 @@
 use mathlib.Core.Path.{◌≡◌, refl, sym, ap, ◌∙◌}
-use Prim.Native.Nat.{◌≤◌, ◌-◌}
 use native.Mathlib.Omega.{arith}
-use lib.ListN.{length, drop}
-use Rattle.address.specs.Ranges.{first_row}
+use lib.ListN.{length}
 use Rattle.address.specs.declared.Range.{Range}
 use Rattle.address.proofs.Rows.{found, passed_over, search_end}
 use borrow.Author.Rules.{rules}

@@ -1,11 +1,7 @@
-use mathlib.Core.Path.{◌≡◌, refl, sym, ap, ◌∙◌}
+use mathlib.Core.Path.{◌≡◌}
 use Prim.Native.Nat.{◌≤◌, ◌-◌}
-use native.Mathlib.Omega.{arith}
-use lib.ListN.{length, drop}
+use lib.ListN.{drop}
 use Rattle.address.specs.Ranges.{first_row}
-use Rattle.address.specs.declared.Range.{Range}
-use Rattle.address.proofs.Rows.{found, passed_over, search_end}
-use borrow.Author.Rules.{rules}
 use Rattle.address.proofs.search.Given as goal
 
 abbrev pub invariant-loop-i : goal.invariant-loop-i

@@ -1,6 +1,5 @@
 use Rattle.address.specs.Ranges.{table}
 use Rattle.address.proofs.Longest.{first_verdict}
-use borrow.Author.Rules.{rules}
 use Rattle.address.proofs.verdict_of.Goals as goal
 
 pub returns : goal.returns

@@ -2,7 +2,6 @@ use mathlib.Core.Path.{ap, ◌∙◌}
 use Rattle.wire.specs.Lists.{entries}
 use Rattle.candidates.specs.Selection.{held, answered}
 use Rattle.candidates.proofs.Passes.{any_is}
-use borrow.Author.Rules.{rules}
 use Rattle.candidates.proofs.bound_punch_candidates.Goals as goal
 
 pub returns : goal.returns

@@ -1,11 +1,8 @@
 -- The invariant is `Keeping`: the addresses kept so far, the bytes that they make, and what is still to come.
 use mathlib.Core.Path.{sym}
-use Prim.Native.Nat.{◌-◌}
 use native.Mathlib.Omega.{arith}
-use lib.ListN.{length}
 use Rattle.wire.proofs.Entries.{stands, entries_end, entries_break}
-use Rattle.candidates.proofs.Keeping.{Keeping, keep_none, keep_len, keep_full, keep_part_long, keep_done, keep_room, keep_skip, keep_more}
-use borrow.Author.Rules.{rules}
+use Rattle.candidates.proofs.Keeping.{keep_none, keep_len, keep_full, keep_part_long, keep_done, keep_room, keep_skip, keep_more}
 use Rattle.candidates.proofs.choose.Goals as goal
 
 pub loop-bytes-init : goal.loop-bytes-init

@@ -6,7 +6,6 @@ use Rattle.candidates.specs.Selection.{packed}
 use Rattle.candidates.specs.OnePass.{kept_from}
 use Rattle.candidates.specs.declared.Limits.{Limits}
 use Rattle.candidates.proofs.Answers.{held_small, answer_refused, answer_kept}
-use borrow.Author.Rules.{rules}
 use Rattle.candidates.proofs.chosen_from.Goals as goal
 
 pub returns-then-is_broken : goal.returns-then-is_broken

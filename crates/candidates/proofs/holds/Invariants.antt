@@ -1,13 +1,9 @@
 -- `candidates::holds` meets its contract: the invariant: the list holds the address just where what is left of it does.
-use mathlib.Core.Path.{◌≡◌, refl}
+use mathlib.Core.Path.{◌≡◌}
 use Prim.Native.Nat.{◌≤◌, ◌-◌}
-use native.Mathlib.Omega.{arith}
-use borrow.Author.Rules.{rules}
 use lib.ListN.{length, drop}
 use Rattle.wire.specs.Lists.{entries}
-use Rattle.wire.proofs.Entries.{AddressAt, stands, entries_end, entries_break}
 use Rattle.candidates.specs.Entries.{contains}
-use Rattle.candidates.proofs.Loops.{holds_on, holds_here, holds_not}
 use Rattle.candidates.proofs.holds.Given as goal
 
 abbrev pub invariant-loop-start : goal.invariant-loop-start

@@ -1,6 +1,5 @@
 -- `candidates::same_bytes` meets its contract: from what `same` ensures.
 use Rattle.candidates.proofs.Answers.{same_is}
-use borrow.Author.Rules.{rules}
 use Rattle.candidates.proofs.same_bytes.Goals as goal
 
 pub returns : goal.returns

@@ -1,6 +1,5 @@
 -- `candidates::same_ip` meets its contract: each answer by the tests on the way.
 use borrow.Author.Tests.{eq-eqb, ne_eqb}
-use borrow.Author.Rules.{rules}
 use Rattle.candidates.proofs.same_ip.Goals as goal
 
 pub returns-then-h-g : goal.returns-then-h-g

@@ -1,6 +1,5 @@
 use Rattle.wire.specs.Lists.{entries}
 use Rattle.candidates.proofs.Answers.{suits_peer, suits_own}
-use borrow.Author.Rules.{rules}
 use Rattle.candidates.proofs.suits_source.Goals as goal
 
 pub returns-in-Peer : goal.returns-in-Peer

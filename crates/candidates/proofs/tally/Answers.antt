@@ -1,7 +1,6 @@
 -- `candidates::tally` meets its contract: each answer by what the bytes are.
 use native.Mathlib.Omega.{arith}
 use Rattle.candidates.proofs.Answers.{bit_le, tally_other, tally_address}
-use borrow.Author.Rules.{rules}
 use Rattle.candidates.proofs.tally.Goals as goal
 
 pub overflow_add-result-in-Address-2 : goal.overflow_add-result-in-Address-2

@@ -1,10 +1,7 @@
 -- `candidates::tally_all` meets its contract: the invariant is `Counting`: what is counted and what is left make up the whole.
-use Prim.Native.Nat.{◌-◌}
 use native.Mathlib.Omega.{arith}
-use borrow.Author.Rules.{rules}
-use lib.ListN.{length}
-use Rattle.wire.proofs.Entries.{AddressAt, stands, entries_end, entries_break}
-use Rattle.candidates.proofs.Loops.{Counting, count_none, count_more, count_all}
+use Rattle.wire.proofs.Entries.{stands, entries_end, entries_break}
+use Rattle.candidates.proofs.Loops.{count_none, count_more, count_all}
 use Rattle.candidates.proofs.tally_all.Goals as goal
 
 pub loop-n-init : goal.loop-n-init

@@ -1,7 +1,6 @@
 -- `candidates::wanted` meets its contract: each answer by what the bytes are and by the tests on the way.
 use Rattle.wire.specs.Lists.{entries}
 use Rattle.candidates.proofs.Answers.{wanted_other, wanted_not, wanted_room}
-use borrow.Author.Rules.{rules}
 use Rattle.candidates.proofs.wanted.Goals as goal
 
 pub returns-then-suits_source : goal.returns-then-suits_source

@@ -1,5 +1,4 @@
 use Rattle.carried.specs.Carried.{connect_after, sent_after, framed_by, ledger_after}
-use borrow.Author.Rules.{rules}
 use Rattle.carried.proofs.carry_out.Goals as goal
 
 pub returns : goal.returns

@@ -1,7 +1,6 @@
 use mathlib.Core.Path.{◌∙◌}
 use Rattle.carried.proofs.Carries.{sets_whole}
 use mathlib.Core.Path.{sym}
-use borrow.Author.Rules.{rules}
 use Rattle.carried.proofs.copy_targets.Goals as goal
 
 pub returns : goal.returns

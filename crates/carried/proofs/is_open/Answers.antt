@@ -1,5 +1,4 @@
 use Rattle.carried.specs.Carried.{opens}
-use borrow.Author.Rules.{rules}
 use Rattle.carried.proofs.is_open.Goals as goal
 
 pub returns-in-Open : goal.returns-in-Open

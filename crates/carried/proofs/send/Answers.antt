@@ -1,7 +1,6 @@
 use Rattle.carried.specs.Carried.{sent_after}
 use mathlib.Core.Path.{sym, ap, ◌∙◌}
 use Rattle.frames.specs.declared.Framed.{Framed}
-use borrow.Author.Rules.{rules}
 use Rattle.carried.proofs.send.Goals as goal
 
 pub returns-in-None : goal.returns-in-None

@@ -1,6 +1,5 @@
 use Rattle.carried.proofs.Carries.{window_kept, window_removed, window_opened}
 use Rattle.carried.specs.Carried.{ledger_after}
-use borrow.Author.Rules.{rules}
 use Rattle.carried.proofs.settle_window.Goals as goal
 
 pub returns-in-Kept : goal.returns-in-Kept

@@ -1,6 +1,5 @@
 use Rattle.carried.specs.Carried.{targets_after}
 use mathlib.Core.Path.{sym}
-use borrow.Author.Rules.{rules}
 use Rattle.carried.proofs.take_targets.Goals as goal
 
 pub returns-in-Kept : goal.returns-in-Kept

@@ -1,7 +1,6 @@
 use mathlib.Core.Path.{◌∙◌, sym}
 use Rattle.carried.proofs.Carries.{connect_written, connect_stays}
 use Rattle.carried.specs.Carried.{framed_by, connect_after}
-use borrow.Author.Rules.{rules}
 use Rattle.carried.proofs.write_connect.Goals as goal
 
 pub returns-then-is_open : goal.returns-then-is_open

@@ -1,6 +1,5 @@
 use Rattle.checks.specs.Refusals.{check_of}
 use mathlib.Core.Path.{sym}
-use borrow.Author.Rules.{rules}
 use Rattle.checks.proofs.checked.Goals as goal
 
 pub returns-then-is_broken : goal.returns-then-is_broken

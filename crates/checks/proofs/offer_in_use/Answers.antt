@@ -1,7 +1,6 @@
 -- `inbound::refusals::offer_in_use` meets its contract: each answer by the tests on the way and by what the callees ensure.
 use Rattle.checks.specs.Refusals.{in_use}
 use borrow.Author.Tests.{eq-eqb, ne_eqb}
-use borrow.Author.Rules.{rules}
 use Rattle.checks.proofs.offer_in_use.Goals as goal
 
 pub returns-then-conn-other : goal.returns-then-conn-other

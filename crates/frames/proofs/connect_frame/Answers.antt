@@ -1,6 +1,5 @@
 -- `frames::connect_frame` meets its contract: what the encoder answers and leaves in the buffer makes the frame.
 use Rattle.frames.proofs.Frames.{connect_made, connect_refused}
-use borrow.Author.Rules.{rules}
 use Rattle.frames.proofs.connect_frame.Goals as goal
 
 pub returns-in-Message : goal.returns-in-Message

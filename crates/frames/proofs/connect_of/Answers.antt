@@ -3,7 +3,6 @@ use lib.ListN.{length-take}
 use native.Mathlib.Omega.{arith}
 use Rattle.frames.specs.Sent.{chosen_connect}
 use mathlib.Core.Path.{sym}
-use borrow.Author.Rules.{rules}
 use Rattle.frames.proofs.connect_of.Goals as goal
 
 pub slice_bounds-bytes-end : goal.slice_bounds-bytes-end

@@ -1,6 +1,5 @@
 -- `frames::frame_byte` meets its contract: each answer by the tests on the way.
 use Rattle.frames.proofs.Gathers.{byte_stored, byte_missing, byte_new, byte_none}
-use borrow.Author.Rules.{rules}
 use Rattle.frames.proofs.frame_byte.Goals as goal
 
 pub returns-then-place-buffer : goal.returns-then-place-buffer

@@ -3,7 +3,6 @@ use mathlib.Core.Path.{◌∙◌}
 use native.Mathlib.Omega.{arith}
 use lib.ListN.{length-take}
 use Rattle.frames.proofs.Gathers.{span_of, stored_of}
-use borrow.Author.Rules.{rules}
 use Rattle.frames.proofs.gather.Goals as goal
 
 pub overflow_sub-n : goal.overflow_sub-n

@@ -1,8 +1,5 @@
 -- `frames::look_ahead` meets its contract: the invariant is `Ahead`: gathering what is left gives what gathering all gives.
-use Prim.Native.Nat.{◌-◌}
-use lib.ListN.{length}
-use Rattle.frames.proofs.Gathers.{Ahead, ahead_none, ahead_full, ahead_more, ahead_whole, ahead_broken, ahead_all}
-use borrow.Author.Rules.{rules}
+use Rattle.frames.proofs.Gathers.{ahead_none, ahead_full, ahead_more, ahead_whole, ahead_broken, ahead_all}
 use Rattle.frames.proofs.look_ahead.Goals as goal
 
 pub loop-i-init : goal.loop-i-init

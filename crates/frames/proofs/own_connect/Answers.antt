@@ -1,6 +1,5 @@
 -- `frames::own_connect` meets its contract: each answer by the tests on the way and by what the callees ensure.
 use Rattle.frames.proofs.Owns.{own_broken, own_within, own_kept}
-use borrow.Author.Rules.{rules}
 use Rattle.frames.proofs.own_connect.Goals as goal
 
 pub returns-in-Refused : goal.returns-in-Refused

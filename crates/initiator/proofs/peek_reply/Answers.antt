@@ -3,7 +3,6 @@ use native.Mathlib.Omega.{arith}
 use lib.ListN.{length-take}
 use Rattle.frames.proofs.Gathers.{span_of}
 use Rattle.initiator.proofs.Peeks.{whole_inside, reply_more, reply_broken, reply_whole}
-use borrow.Author.Rules.{rules}
 use Rattle.initiator.proofs.peek_reply.Goals as goal
 
 pub overflow_sub-n : goal.overflow_sub-n

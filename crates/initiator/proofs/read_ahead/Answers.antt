@@ -3,7 +3,6 @@ use mathlib.Core.Path.{ap, ◌∙◌}
 use Prim.Native.Nat.{ℕ}
 use lib.ListN.{length, length-replicate}
 use Rattle.initiator.proofs.Peeks.{read_copy}
-use borrow.Author.Rules.{rules}
 use Rattle.initiator.proofs.read_ahead.Goals as goal
 
 pub returns : goal.returns

@@ -1,6 +1,5 @@
 -- `initiator::read_message` meets its contract: each answer by what was decoded.
 use Rattle.initiator.proofs.Peeks.{is_connect, is_sync, is_refused}
-use borrow.Author.Rules.{rules}
 use Rattle.initiator.proofs.read_message.Goals as goal
 
 pub shape_of-out-in-Connect : goal.shape_of-out-in-Connect

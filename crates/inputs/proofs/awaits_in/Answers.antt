@@ -1,7 +1,6 @@
 use Rattle.inputs.specs.Inputs.{awaits_in}
 use borrow.Author.Tests.{le-leb, lt-leb, lt-ltb, le-ltb, eq-eqb, ne_eqb}
 use mathlib.Core.Path.{sym}
-use borrow.Author.Rules.{rules}
 use Rattle.inputs.proofs.awaits_in.Goals as goal
 
 pub returns-then-on-stream : goal.returns-then-on-stream

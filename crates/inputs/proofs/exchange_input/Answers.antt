@@ -1,6 +1,5 @@
 use Rattle.inputs.specs.Inputs.{exchange_input}
 use mathlib.Core.Path.{sym}
-use borrow.Author.Rules.{rules}
 use Rattle.inputs.proofs.exchange_input.Goals as goal
 
 pub returns-in-None : goal.returns-in-None

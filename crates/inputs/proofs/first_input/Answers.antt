@@ -1,7 +1,6 @@
 use Rattle.inputs.specs.Inputs.{first_input}
 use Rattle.inputs.specs.Inputs.{closing}
 use mathlib.Core.Path.{sym}
-use borrow.Author.Rules.{rules}
 use Rattle.inputs.proofs.first_input.Goals as goal
 
 pub returns-then-closing : goal.returns-then-closing

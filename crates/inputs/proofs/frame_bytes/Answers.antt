@@ -1,4 +1,3 @@
-use borrow.Author.Rules.{rules}
 use Rattle.inputs.proofs.frame_bytes.Goals as goal
 
 pub returns-in-Exchange : goal.returns-in-Exchange

@@ -1,6 +1,5 @@
 use Rattle.inputs.specs.Inputs.{in_exchange}
 use mathlib.Core.Path.{sym}
-use borrow.Author.Rules.{rules}
 use Rattle.inputs.proofs.in_exchange.Goals as goal
 
 pub returns : goal.returns

@@ -1,5 +1,4 @@
 use Rattle.inputs.specs.Inputs.{closing}
-use borrow.Author.Rules.{rules}
 use Rattle.inputs.proofs.is_closing.Goals as goal
 
 pub returns-in-Ready : goal.returns-in-Ready

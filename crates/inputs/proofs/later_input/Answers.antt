@@ -1,5 +1,4 @@
 use mathlib.Core.Path.{sym}
-use borrow.Author.Rules.{rules}
 use Rattle.inputs.proofs.later_input.Goals as goal
 
 pub returns-in-Ready : goal.returns-in-Ready

@@ -1,6 +1,5 @@
 use Rattle.inputs.specs.Inputs.{open_window}
 use mathlib.Core.Path.{sym}
-use borrow.Author.Rules.{rules}
 use Rattle.inputs.proofs.open_window.Goals as goal
 
 pub returns : goal.returns

@@ -1,5 +1,4 @@
 use mathlib.Core.Path.{sym}
-use borrow.Author.Rules.{rules}
 use Rattle.inputs.proofs.reply.Goals as goal
 
 pub returns-in-Nothing : goal.returns-in-Nothing

@@ -1,6 +1,5 @@
 use Rattle.inputs.specs.Inputs.{round_trip}
 use mathlib.Core.Path.{sym}
-use borrow.Author.Rules.{rules}
 use Rattle.inputs.proofs.round_trip.Goals as goal
 
 pub returns-in-Unsent : goal.returns-in-Unsent

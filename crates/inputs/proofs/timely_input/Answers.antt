@@ -1,5 +1,4 @@
 use mathlib.Core.Path.{sym}
-use borrow.Author.Rules.{rules}
 use Rattle.inputs.proofs.timely_input.Goals as goal
 
 pub returns-in-Unsent : goal.returns-in-Unsent

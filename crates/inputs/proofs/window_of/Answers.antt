@@ -1,6 +1,5 @@
 use Rattle.inputs.specs.Inputs.{window_of}
 use mathlib.Core.Path.{sym}
-use borrow.Author.Rules.{rules}
 use Rattle.inputs.proofs.window_of.Goals as goal
 
 pub returns : goal.returns

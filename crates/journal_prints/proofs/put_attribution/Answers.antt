@@ -1,5 +1,4 @@
 use Rattle.text.proofs.Printing.{laid, length_kept}
-use borrow.Author.Rules.{rules}
 use Rattle.journal_prints.proofs.put_attribution.Goals as goal
 
 pub shape_of-out : goal.shape_of-out

@@ -2,7 +2,6 @@ use mathlib.Core.Path.{◌∙◌}
 use Rattle.text.proofs.Printing.{laid, parts, then, length_kept}
 use Rattle.forms.proofs.Print.{same}
 use Rattle.journal_prints.proofs.Words.{none_text}
-use borrow.Author.Rules.{rules}
 use Rattle.journal_prints.proofs.put_none.Goals as goal
 
 pub shape_of-out : goal.shape_of-out

@@ -1,13 +1,8 @@
-use mathlib.Core.Path.{◌≡◌, refl, ◌∙◌}
-use Prim.Native.Nat.{◌≤◌, ◌-◌}
+use mathlib.Core.Path.{refl, ◌∙◌}
 use native.Mathlib.Omega.{arith}
-use lib.ListN.{length, drop}
-use Rattle.wire.specs.Lists.{entries}
 use Rattle.wire.proofs.Entries.{stands}
-use Rattle.text.proofs.Printing.{laid, parts, length_kept, Left, left_all, left_none}
-use Rattle.journal_prints.specs.Outputs.{with_commas}
+use Rattle.text.proofs.Printing.{laid, parts, length_kept, left_all, left_none}
 use Rattle.journal_prints.proofs.Targets.{other_laid, others_end, others_break}
-use borrow.Author.Rules.{rules}
 use Rattle.journal_prints.proofs.put_others.Goals as goal
 
 pub loop-start-init : goal.loop-start-init

@@ -1,13 +1,9 @@
-use mathlib.Core.Path.{◌≡◌, refl, ◌∙◌}
+use mathlib.Core.Path.{◌≡◌}
 use Prim.Native.Nat.{◌≤◌, ◌-◌}
-use native.Mathlib.Omega.{arith}
 use lib.ListN.{length, drop}
 use Rattle.wire.specs.Lists.{entries}
-use Rattle.wire.proofs.Entries.{stands}
-use Rattle.text.proofs.Printing.{laid, parts, length_kept, Left, left_all, left_none}
+use Rattle.text.proofs.Printing.{Left}
 use Rattle.journal_prints.specs.Outputs.{with_commas}
-use Rattle.journal_prints.proofs.Targets.{other_laid, others_end, others_break}
-use borrow.Author.Rules.{rules}
 use Rattle.journal_prints.proofs.put_others.Given as goal
 
 abbrev pub invariant-loop-start : goal.invariant-loop-start

@@ -3,7 +3,6 @@ use native.Mathlib.Omega.{arith}
 use Rattle.wire.proofs.Entries.{stands}
 use Rattle.text.proofs.Printing.{laid, parts, length_kept}
 use Rattle.journal_prints.proofs.Targets.{targets_end, targets_break, targets_laid}
-use borrow.Author.Rules.{rules}
 use Rattle.journal_prints.proofs.put_targets.Goals as goal
 
 pub slice_bounds-put_hexadecimal-count : goal.slice_bounds-put_hexadecimal-count

@@ -1,5 +1,4 @@
 use Rattle.kinds.specs.Kinds.{dial_numbers}
-use borrow.Author.Rules.{rules}
 use Rattle.kinds.proofs.dial_row.Goals as goal
 
 pub returns-in-Relay : goal.returns-in-Relay

@@ -1,7 +1,6 @@
 use Rattle.kinds.specs.Kinds.{entry_of}
 use borrow.Author.Tests.{eq-eqb, ne_eqb}
 use mathlib.Core.Path.{sym}
-use borrow.Author.Rules.{rules}
 use Rattle.kinds.proofs.entry_of.Goals as goal
 
 pub returns-then-kind-eq-RELAY : goal.returns-then-kind-eq-RELAY

@@ -1,5 +1,4 @@
 use Rattle.kinds.specs.Kinds.{owned_numbers}
-use borrow.Author.Rules.{rules}
 use Rattle.kinds.proofs.owned_row.Goals as goal
 
 pub returns-in-None : goal.returns-in-None

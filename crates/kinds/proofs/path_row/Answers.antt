@@ -1,6 +1,5 @@
 use Rattle.kinds.specs.Kinds.{path_numbers}
 use mathlib.Core.Path.{sym}
-use borrow.Author.Rules.{rules}
 use Rattle.kinds.proofs.path_row.Goals as goal
 
 pub returns-in-Relayed : goal.returns-in-Relayed

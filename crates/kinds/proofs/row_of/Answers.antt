@@ -1,6 +1,5 @@
 use Rattle.kinds.specs.Kinds.{numbers_of}
 use mathlib.Core.Path.{sym}
-use borrow.Author.Rules.{rules}
 use Rattle.kinds.proofs.row_of.Goals as goal
 
 pub returns-in-Dialed : goal.returns-in-Dialed

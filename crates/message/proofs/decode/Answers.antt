@@ -1,7 +1,6 @@
 -- `message::decode` meets its contract: each answer by what was measured.
 use native.Mathlib.Omega.{arith}
 use Rattle.message.proofs.Answers.{read_long, read_refused, read_good, read_short, read_done}
-use borrow.Author.Rules.{rules}
 use Rattle.message.proofs.decode.Goals as goal
 
 pub returns-then-message-gt-MAX_MESSAGE_SIZE : goal.returns-then-message-gt-MAX_MESSAGE_SIZE

@@ -7,7 +7,6 @@ use lib.Seq.{sets}
 use Rattle.wire.specs.Lists.{entries}
 use Rattle.message.specs.Encoding.{type_field, address_fields, message_bytes, encode_of, encode_into}
 use Rattle.message.proofs.Answers.{message_adds, size_is, write_refused, write_short, write_done}
-use borrow.Author.Rules.{rules}
 use Rattle.message.proofs.encode.Goals as goal
 
 pub returns-then-out-size : goal.returns-then-out-size

@@ -10,7 +10,6 @@ use Rattle.wire.specs.Lists.{entries}
 use Rattle.wire.proofs.VarintAgain.{groups_most}
 use Rattle.message.specs.Encoding.{type_field, address_fields, message_bytes, frame_bytes, encode_of, frame_encode_of, frame_encode_into}
 use Rattle.message.proofs.Answers.{message_adds, size_is, write_refused, write_short, write_done, frame_adds, frame_stored}
-use borrow.Author.Rules.{rules}
 use Rattle.message.proofs.encode_frame.Goals as goal
 
 pub overflow_add-head : goal.overflow_add-head

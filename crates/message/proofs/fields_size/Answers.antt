@@ -1,10 +1,7 @@
 -- `message::fields_size` meets its contract: the invariant is `Counted`: the bytes so far and those still to come make up the whole.
-use Prim.Native.Nat.{◌-◌}
 use native.Mathlib.Omega.{arith}
-use lib.ListN.{length}
 use Rattle.wire.proofs.Entries.{stands, entries_end, entries_break}
-use Rattle.message.proofs.FieldList.{Counted, count_none, field_small, count_more, count_all}
-use borrow.Author.Rules.{rules}
+use Rattle.message.proofs.FieldList.{count_none, field_small, count_more, count_all}
 use Rattle.message.proofs.fields_size.Goals as goal
 
 pub loop-start-init : goal.loop-start-init

@@ -4,7 +4,6 @@ use Rattle.wire.specs.Lists.{entries}
 use Rattle.wire.proofs.VarintAgain.{groups_most}
 use Rattle.message.specs.Encoding.{message_bytes, encode_of}
 use Rattle.message.proofs.Answers.{message_long, message_adds, size_broken, size_long, size_good}
-use borrow.Author.Rules.{rules}
 use Rattle.message.proofs.message_size.Goals as goal
 
 pub returns-then-is_broken : goal.returns-then-is_broken

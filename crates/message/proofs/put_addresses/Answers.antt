@@ -1,14 +1,10 @@
 -- `message::put_addresses` meets its contract: the invariant: storing the addresses still to come gives what storing all gives.
-use mathlib.Core.Path.{◌≡◌, refl, ◌∙◌}
-use Prim.Native.Nat.{ℕ, ◌+◌, ◌≤◌, ◌-◌}
+use mathlib.Core.Path.{refl, ◌∙◌}
+use Prim.Native.Nat.{◌-◌}
 use native.Mathlib.Omega.{arith}
-use lib.ListN.{length, drop}
-use lib.Seq.{sets}
-use Rattle.wire.specs.Lists.{listed}
-use Rattle.message.specs.Message.{scan, content_of, addresses}
+use lib.ListN.{length}
 use Rattle.message.proofs.Scan.{sized}
-use Rattle.message.proofs.Addresses.{Left, left_end, left_malformed, left_typed, left_other, left_entry}
-use borrow.Author.Rules.{rules}
+use Rattle.message.proofs.Addresses.{left_end, left_malformed, left_typed, left_other, left_entry}
 use Rattle.protobuf.specs.declared.Field.TheVariants as f
 use Rattle.message.proofs.put_addresses.Goals as goal
 

@@ -1,15 +1,11 @@
 -- `message::put_addresses` meets its contract: the invariant: storing the addresses still to come gives what storing all gives.
-use mathlib.Core.Path.{◌≡◌, refl, ◌∙◌}
+use mathlib.Core.Path.{◌≡◌}
 use Prim.Native.Nat.{ℕ, ◌+◌, ◌≤◌, ◌-◌}
-use native.Mathlib.Omega.{arith}
 use lib.ListN.{length, drop}
 use lib.Seq.{sets}
 use Rattle.wire.specs.Lists.{listed}
 use Rattle.message.specs.Message.{scan, content_of, addresses}
-use Rattle.message.proofs.Scan.{sized}
-use Rattle.message.proofs.Addresses.{Left, left_end, left_malformed, left_typed, left_other, left_entry}
-use borrow.Author.Rules.{rules}
-use Rattle.protobuf.specs.declared.Field.TheVariants as f
+use Rattle.message.proofs.Addresses.{Left}
 use Rattle.message.proofs.put_addresses.Given as goal
 
 abbrev pub invariant-loop-at : goal.invariant-loop-at

@@ -7,7 +7,6 @@ use Rattle.message.specs.Encoding.{address_field}
 use Rattle.wire.proofs.Stores.{sets_out}
 use Rattle.wire.proofs.VarintAgain.{groups_most}
 use Rattle.message.proofs.FieldList.{field_stored}
-use borrow.Author.Rules.{rules}
 use Rattle.message.proofs.put_field.Goals as goal
 
 pub returns-then-out-at : goal.returns-then-out-at

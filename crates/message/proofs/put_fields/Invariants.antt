@@ -1,14 +1,11 @@
 -- `message::put_fields` meets its contract: the invariant is `Storing`: storing the fields still to come gives what storing all gives.
-use mathlib.Core.Path.{◌≡◌, refl, ◌∙◌}
+use mathlib.Core.Path.{◌≡◌}
 use Prim.Native.Nat.{◌+◌, ◌-◌}
-use native.Mathlib.Omega.{arith}
 use lib.ListN.{length}
 use lib.Seq.{sets}
 use Rattle.wire.specs.Lists.{entries}
-use Rattle.wire.proofs.Entries.{stands, entries_end, entries_break}
 use Rattle.message.specs.Encoding.{address_fields}
-use Rattle.message.proofs.FieldList.{Storing, store_none, store_room, store_more, store_all}
-use borrow.Author.Rules.{rules}
+use Rattle.message.proofs.FieldList.{Storing}
 use Rattle.message.proofs.put_fields.Given as goal
 
 abbrev pub invariant-loop-start : goal.invariant-loop-start

@@ -6,7 +6,6 @@ use Rattle.wire.specs.Lists.{entries}
 use Rattle.wire.proofs.Stores.{parts_stored}
 use Rattle.message.specs.Encoding.{type_field, address_fields}
 use Rattle.message.proofs.FieldList.{type_stored}
-use borrow.Author.Rules.{rules}
 use Rattle.message.proofs.put_message.Goals as goal
 
 pub put_fields-requires : goal.put_fields-requires

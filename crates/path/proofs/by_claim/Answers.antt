@@ -1,5 +1,4 @@
 use Rattle.path.specs.Judged.{by_claim}
-use borrow.Author.Rules.{rules}
 use Rattle.path.proofs.by_claim.Goals as goal
 
 pub returns-in-Direct : goal.returns-in-Direct

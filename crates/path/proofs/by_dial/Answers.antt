@@ -1,5 +1,4 @@
 use Rattle.path.specs.Judged.{by_dial}
-use borrow.Author.Rules.{rules}
 use Rattle.path.proofs.by_dial.Goals as goal
 
 pub returns-in_default : goal.returns-in_default

@@ -1,5 +1,4 @@
 use Rattle.path.specs.Judged.{circuit_path}
-use borrow.Author.Rules.{rules}
 use Rattle.path.proofs.circuit_path.Goals as goal
 
 pub returns-in-Circuit : goal.returns-in-Circuit

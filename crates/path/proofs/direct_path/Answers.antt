@@ -1,6 +1,5 @@
 use Rattle.path.specs.Judged.{direct_path}
 use mathlib.Core.Path.{sym}
-use borrow.Author.Rules.{rules}
 use Rattle.path.proofs.direct_path.Goals as goal
 
 pub returns : goal.returns

@@ -1,5 +1,4 @@
 use Rattle.path.specs.Judged.{is_owned}
-use borrow.Author.Rules.{rules}
 use Rattle.path.proofs.is_owned.Goals as goal
 
 pub returns-in-Attempt : goal.returns-in-Attempt

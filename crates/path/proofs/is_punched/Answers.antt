@@ -1,5 +1,4 @@
 use Rattle.path.specs.Judged.{punched_at}
-use borrow.Author.Rules.{rules}
 use Rattle.path.proofs.is_punched.Goals as goal
 
 pub returns-in_default : goal.returns-in_default

@@ -1,5 +1,4 @@
 use Rattle.path.specs.Judged.{is_relayed}
-use borrow.Author.Rules.{rules}
 use Rattle.path.proofs.is_relayed.Goals as goal
 
 pub returns-in-Relayed : goal.returns-in-Relayed

@@ -1,6 +1,5 @@
 use Rattle.path.specs.Judged.{judged}
 use mathlib.Core.Path.{sym}
-use borrow.Author.Rules.{rules}
 use Rattle.path.proofs.judge.Goals as goal
 
 pub returns-then-circuit : goal.returns-then-circuit

@@ -1,6 +1,5 @@
 use Rattle.path.specs.Judged.{upgrade_of}
 use mathlib.Core.Path.{sym}
-use borrow.Author.Rules.{rules}
 use Rattle.path.proofs.upgrade.Goals as goal
 
 pub returns-in_default : goal.returns-in_default

@@ -2,7 +2,6 @@
 use Rattle.protobuf.proofs.Fields.{size_of, bytes_cut, bytes_address, bytes_other}
 use native.Mathlib.Omega.{arith}
 use mathlib.Core.Path.{sym}
-use borrow.Author.Rules.{rules}
 use Rattle.protobuf.proofs.bytes_field.Goals as goal
 
 pub overflow_sub-left : goal.overflow_sub-left

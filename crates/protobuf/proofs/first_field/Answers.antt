@@ -4,7 +4,6 @@ use Rattle.protobuf.specs.Fields.{field_of}
 use native.Mathlib.Omega.{arith}
 use mathlib.Core.Path.{sym}
 use borrow.Author.Tests.{lt-ltb, eq-eqb, ne_eqb}
-use borrow.Author.Rules.{rules}
 use Rattle.protobuf.proofs.first_field.Goals as goal
 
 pub returns-then-n-eq0 : goal.returns-then-n-eq0

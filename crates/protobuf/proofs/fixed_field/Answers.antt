@@ -1,6 +1,5 @@
 -- `protobuf::fixed_field` meets its contract: each answer by its test.
 use borrow.Author.Tests.{le-leb, lt-leb}
-use borrow.Author.Rules.{rules}
 use Rattle.protobuf.proofs.fixed_field.Goals as goal
 
 pub returns-then-k-s : goal.returns-then-k-s

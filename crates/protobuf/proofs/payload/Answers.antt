@@ -1,7 +1,6 @@
 -- `protobuf::payload` meets its contract: each answer by the wire type.
 use mathlib.Core.Path.{sym}
 use borrow.Author.Tests.{eq-eqb, ne_eqb}
-use borrow.Author.Rules.{rules}
 use Rattle.protobuf.proofs.payload.Goals as goal
 
 pub returns-then-w-eq0 : goal.returns-then-w-eq0

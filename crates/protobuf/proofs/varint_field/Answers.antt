@@ -3,7 +3,6 @@ use Rattle.protobuf.proofs.Fields.{size_of}
 use native.Mathlib.Omega.{arith}
 use mathlib.Core.Path.{sym}
 use borrow.Author.Tests.{eq-eqb, ne_eqb}
-use borrow.Author.Rules.{rules}
 use Rattle.protobuf.proofs.varint_field.Goals as goal
 
 pub overflow_add-result : goal.overflow_add-result

@@ -1,7 +1,6 @@
 use Rattle.questions.specs.Questions.{claim_of}
 use borrow.Author.Tests.{eq-eqb, ne_eqb}
 use mathlib.Core.Path.{sym}
-use borrow.Author.Rules.{rules}
 use Rattle.questions.proofs.circuit_claim.Goals as goal
 
 pub returns-then-conn-circuit : goal.returns-then-conn-circuit

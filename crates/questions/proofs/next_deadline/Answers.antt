@@ -1,6 +1,5 @@
 use borrow.Author.Tests.{eq-eqb, ne_eqb}
 use mathlib.Core.Path.{sym}
-use borrow.Author.Rules.{rules}
 use Rattle.questions.proofs.next_deadline.Goals as goal
 
 pub returns-in-Handshaking : goal.returns-in-Handshaking

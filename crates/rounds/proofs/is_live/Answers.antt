@@ -1,5 +1,4 @@
 use Rattle.rounds.specs.Rounds.{is_live}
-use borrow.Author.Rules.{rules}
 use Rattle.rounds.proofs.is_live.Goals as goal
 
 pub returns-in-Nothing : goal.returns-in-Nothing

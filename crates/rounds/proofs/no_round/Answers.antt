@@ -1,6 +1,5 @@
 use Rattle.rounds.specs.Rounds.{no_round}
 use mathlib.Core.Path.{sym}
-use borrow.Author.Rules.{rules}
 use Rattle.rounds.proofs.no_round.Goals as goal
 
 pub returns : goal.returns

@@ -1,6 +1,5 @@
 use Rattle.rounds.specs.Rounds.{open_round}
 use mathlib.Core.Path.{sym}
-use borrow.Author.Rules.{rules}
 use Rattle.rounds.proofs.open_round.Goals as goal
 
 pub returns-then-may_begin : goal.returns-then-may_begin

@@ -1,5 +1,4 @@
 use mathlib.Core.Path.{sym}
-use borrow.Author.Rules.{rules}
 use Rattle.rounds.proofs.open_stream.Goals as goal
 
 pub returns-in-Nothing : goal.returns-in-Nothing

@@ -1,6 +1,5 @@
 use mathlib.Core.Path.{sym}
 use Rattle.schedule.specs.Instants.{start_of}
-use borrow.Author.Rules.{rules}
 use Rattle.schedule.proofs.blast_start.Goals as goal
 
 pub returns : goal.returns

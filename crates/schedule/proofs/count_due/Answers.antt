@@ -2,7 +2,6 @@ use Prim.Native.Nat.{◌-◌}
 use native.Mathlib.Nat.{div-le_self}
 use native.Mathlib.Omega.{arith}
 use Rattle.schedule.proofs.Schedule.{due_none, due_some}
-use borrow.Author.Rules.{rules}
 use Rattle.schedule.proofs.count_due.Goals as goal
 
 pub returns-then-limit-at : goal.returns-then-limit-at

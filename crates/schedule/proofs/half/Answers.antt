@@ -1,6 +1,5 @@
 use native.Mathlib.Omega.{arith}
 use Rattle.schedule.specs.Instants.{half_of}
-use borrow.Author.Rules.{rules}
 use Rattle.schedule.proofs.half.Goals as goal
 
 pub returns : goal.returns

@@ -3,7 +3,6 @@ use mathlib.Core.Path.{sym}
 use native.Mathlib.Omega.{arith}
 use Rattle.schedule.proofs.Instants.{fits_mul, over_mul}
 use Rattle.schedule.proofs.Schedule.{moved_over, moved_next}
-use borrow.Author.Rules.{rules}
 use Rattle.schedule.proofs.move_on.Goals as goal
 
 pub returns-then-until-at : goal.returns-then-until-at

@@ -1,4 +1,3 @@
-use mathlib.Core.Path.{◌∙◌}
 use native.Mathlib.Omega.{arith}
 use Rattle.text.proofs.Printing.{laid, parts, number_one, number_more}
 use Rattle.text.proofs.+put_decimal.Goals as goal

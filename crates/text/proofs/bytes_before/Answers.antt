@@ -1,10 +1,5 @@
-use mathlib.Core.Path.{◌≡◌}
-use Prim.Native.Nat.{◌≤◌, ◌-◌, ◌+◌}
 use native.Mathlib.Omega.{arith}
-use lib.ListN.{length, drop}
-use Rattle.text.specs.Words.{length_before}
 use Rattle.text.proofs.Reading.{spaced, unspaced, all_word}
-use borrow.Author.Rules.{rules}
 use Rattle.text.proofs.bytes_before.Goals as goal
 
 pub loop-i-init : goal.loop-i-init

@@ -1,10 +1,7 @@
 use mathlib.Core.Path.{◌≡◌}
 use Prim.Native.Nat.{◌≤◌, ◌-◌, ◌+◌}
-use native.Mathlib.Omega.{arith}
 use lib.ListN.{length, drop}
 use Rattle.text.specs.Words.{length_before}
-use Rattle.text.proofs.Reading.{spaced, unspaced, all_word}
-use borrow.Author.Rules.{rules}
 use Rattle.text.proofs.bytes_before.Given as goal
 
 abbrev pub invariant-loop-i : goal.invariant-loop-i

@@ -1,12 +1,8 @@
-use mathlib.Core.Path.{◌≡◌, refl}
-use lib.ListN.{length-set, length, take, drop}
+use mathlib.Core.Path.{refl}
+use lib.ListN.{length-set}
 use Rattle.text.proofs.Reading.{digit_at}
 use Rattle.text.proofs.Printing.{converted_more, converted_all}
-use mathlib.Core.List.{◌++◌}
-use Prim.Native.Nat.{◌≤◌, ◌-◌, ◌*◌}
 use native.Mathlib.Omega.{arith}
-use Rattle.text.specs.Hexadecimal.{bytes_of}
-use borrow.Author.Rules.{rules}
 use Rattle.text.proofs.convert.Goals as goal
 
 pub loop-i-init : goal.loop-i-init

@@ -1,11 +1,5 @@
-use mathlib.Core.Path.{◌≡◌, refl, ◌∙◌}
-use mathlib.Core.Logic.{⊎_elim}
-use Prim.Native.Nat.{◌≤◌, ◌-◌}
+use mathlib.Core.Path.{refl, ◌∙◌}
 use native.Mathlib.Omega.{arith}
-use lib.ListN.{length, drop}
-use Rattle.prelude.specs.Choice.{either}
-use Rattle.text.specs.Words.{has_byte}
-use borrow.Author.Rules.{rules}
 use Rattle.text.proofs.Reading.{found_here, not_here, searched}
 use Rattle.text.proofs.has.Goals as goal
 use Rattle.text.proofs.has.Goals.{then-text-i, else-text-i}
@@ -15,9 +9,9 @@ loop-i-init c = (omega arith, refl)
 
 pub loop-i-preserved : goal.loop-i-preserved
 loop-i-preserved c = elim c.if-text-i.branch [
-    then-text-i w ↦ (omega arith, found_here _ _ _ c.loop-i.found c.loop-i.invariant.1 c.loop-i-test.true w.if-text-i.true ∙ rw w.found-is)
+  | then-text-i w ↦ (omega arith, found_here _ _ _ c.loop-i.found c.loop-i.invariant.1 c.loop-i-test.true w.if-text-i.true ∙ rw w.found-is)
   | else-text-i w ↦ (omega arith, not_here _ _ _ c.loop-i.found c.loop-i.invariant.1 c.loop-i-test.true w.if-text-i.false ∙ rw w.found-is)
-  ]
+]
 
 pub returns : goal.returns
 returns c = searched _ _ _ c.loop-i.found c.loop-i.invariant.1 c.loop-i-test.false

@@ -1,12 +1,8 @@
-use mathlib.Core.Path.{◌≡◌, refl, ◌∙◌}
-use mathlib.Core.Logic.{⊎_elim}
+use mathlib.Core.Path.{◌≡◌}
 use Prim.Native.Nat.{◌≤◌, ◌-◌}
-use native.Mathlib.Omega.{arith}
 use lib.ListN.{length, drop}
 use Rattle.prelude.specs.Choice.{either}
 use Rattle.text.specs.Words.{has_byte}
-use borrow.Author.Rules.{rules}
-use Rattle.text.proofs.Reading.{found_here, not_here, searched}
 use Rattle.text.proofs.has.Given as goal
 
 abbrev pub invariant-loop-i : goal.invariant-loop-i

@@ -1,12 +1,8 @@
-use mathlib.Core.Path.{◌≡◌, refl, sym, ◌∙◌}
-use mathlib.Core.Logic.{⊎_elim}
-use Prim.Native.Nat.{◌≤◌, ◌-◌, ◌/◌}
+use mathlib.Core.Path.{refl, sym, ◌∙◌}
+use Prim.Native.Nat.{◌/◌}
 use native.Mathlib.Omega.{arith}
-use lib.ListN.{length, drop}
-use lib.Dec.{ltb}
-use Rattle.prelude.specs.Choice.{both}
-use borrow.Author.Rules.{rules}
-use Rattle.text.proofs.Reading.{all_digits, odd, even_digits, greater_digit, no_greater_digit, digits_end}
+use lib.ListN.{length}
+use Rattle.text.proofs.Reading.{odd, even_digits, greater_digit, no_greater_digit, digits_end}
 use Rattle.text.proofs.is_hexadecimal.Goals as goal
 use Rattle.text.proofs.is_hexadecimal.Goals.{then-most-d, else-most-d}
 
@@ -18,9 +14,9 @@ loop-i-init c = (omega arith, refl)
 
 pub loop-i-preserved : goal.loop-i-preserved
 loop-i-preserved c = elim c.if-most-d.branch [
-    then-most-d w ↦ (omega arith, greater_digit _ _ _ c.loop-i.invariant.1 c.loop-i-test.true c.digit_value-d.ensures w.if-most-d.true ∙ rw w.most-is)
+  | then-most-d w ↦ (omega arith, greater_digit _ _ _ c.loop-i.invariant.1 c.loop-i-test.true c.digit_value-d.ensures w.if-most-d.true ∙ rw w.most-is)
   | else-most-d w ↦ (omega arith, no_greater_digit _ _ _ c.loop-i.invariant.1 c.loop-i-test.true c.digit_value-d.ensures w.if-most-d.false ∙ rw w.most-is)
-  ]
+]
 
 pub returns : goal.returns
 returns c = sym (even_digits (length c.args.text.now / 2) _ (omega arith) ∙ digits_end _ _ c.loop-i.most c.loop-i.invariant.1 c.loop-i-test.false)

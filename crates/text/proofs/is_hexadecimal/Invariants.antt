@@ -1,12 +1,9 @@
-use mathlib.Core.Path.{◌≡◌, refl, sym, ◌∙◌}
-use mathlib.Core.Logic.{⊎_elim}
-use Prim.Native.Nat.{◌≤◌, ◌-◌, ◌/◌}
-use native.Mathlib.Omega.{arith}
+use mathlib.Core.Path.{◌≡◌}
+use Prim.Native.Nat.{◌≤◌, ◌-◌}
 use lib.ListN.{length, drop}
 use lib.Dec.{ltb}
 use Rattle.prelude.specs.Choice.{both}
-use borrow.Author.Rules.{rules}
-use Rattle.text.proofs.Reading.{all_digits, odd, even_digits, greater_digit, no_greater_digit, digits_end}
+use Rattle.text.proofs.Reading.{all_digits}
 use Rattle.text.proofs.is_hexadecimal.Given as goal
 
 abbrev pub invariant-loop-i : goal.invariant-loop-i

@@ -1,7 +1,6 @@
 use mathlib.Core.Path.{sym}
 use borrow.Author.Tests.{eq-eqb, ne_eqb}
 use Rattle.text.specs.Words.{is_word}
-use borrow.Author.Rules.{rules}
 use Rattle.text.proofs.is_word.Goals as goal
 
 pub returns-then-text-word : goal.returns-then-text-word

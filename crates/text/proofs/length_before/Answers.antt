@@ -1,10 +1,6 @@
-use mathlib.Core.Path.{sym, ◌∙◌, ◌≡◌}
+use mathlib.Core.Path.{sym, ◌∙◌}
 use Rattle.text.proofs.Reading.{passed_over, rest_before, before_within}
-use Prim.Native.Nat.{◌≤◌, ◌-◌, ◌+◌}
-use lib.ListN.{length, drop}
-use Rattle.text.specs.Words.{length_before}
 use native.Mathlib.Omega.{arith}
-use borrow.Author.Rules.{rules}
 use Rattle.text.proofs.length_before.Goals as goal
 
 pub loop-i-init : goal.loop-i-init

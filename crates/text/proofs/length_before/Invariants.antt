@@ -1,10 +1,7 @@
-use mathlib.Core.Path.{sym, ◌∙◌, ◌≡◌}
-use Rattle.text.proofs.Reading.{passed_over, rest_before, before_within}
+use mathlib.Core.Path.{◌≡◌}
 use Prim.Native.Nat.{◌≤◌, ◌-◌, ◌+◌}
 use lib.ListN.{length, drop}
 use Rattle.text.specs.Words.{length_before}
-use native.Mathlib.Omega.{arith}
-use borrow.Author.Rules.{rules}
 use Rattle.text.proofs.length_before.Given as goal
 
 abbrev pub invariant-loop-i : goal.invariant-loop-i

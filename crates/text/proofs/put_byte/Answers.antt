@@ -1,5 +1,4 @@
 use Rattle.text.proofs.Printing.{parts, byte_in, byte_out}
-use borrow.Author.Rules.{rules}
 use Rattle.text.proofs.put_byte.Goals as goal
 
 pub returns-then-at-out : goal.returns-then-at-out

@@ -1,5 +1,4 @@
 use Rattle.text.proofs.Printing.{laid, parts, bytes_none, bytes_some}
-use borrow.Author.Rules.{rules}
 use Rattle.text.proofs.put_bytes.Goals as goal
 
 pub returns-then-bytes-eq0 : goal.returns-then-bytes-eq0

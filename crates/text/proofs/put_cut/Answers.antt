@@ -1,9 +1,6 @@
-use mathlib.Core.Path.{◌≡◌, refl, ◌∙◌}
-use Prim.Native.Nat.{◌≤◌, ◌-◌}
+use mathlib.Core.Path.{refl, ◌∙◌}
 use native.Mathlib.Omega.{arith}
-use lib.ListN.{length, take}
-use Rattle.text.proofs.Printing.{laid, parts, Laid, laid_none, text_more, text_all}
-use borrow.Author.Rules.{rules}
+use Rattle.text.proofs.Printing.{laid, parts, laid_none, text_more, text_all}
 use Rattle.text.proofs.put_cut.Goals as goal
 
 pub loop-i-init : goal.loop-i-init

@@ -1,9 +1,7 @@
-use mathlib.Core.Path.{◌≡◌, refl, ◌∙◌}
+use mathlib.Core.Path.{◌≡◌}
 use Prim.Native.Nat.{◌≤◌, ◌-◌}
-use native.Mathlib.Omega.{arith}
 use lib.ListN.{length, take}
-use Rattle.text.proofs.Printing.{laid, parts, Laid, laid_none, text_more, text_all}
-use borrow.Author.Rules.{rules}
+use Rattle.text.proofs.Printing.{Laid}
 use Rattle.text.proofs.put_cut.Given as goal
 
 abbrev pub invariant-loop-i : goal.invariant-loop-i

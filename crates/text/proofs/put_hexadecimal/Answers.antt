@@ -1,10 +1,6 @@
-use mathlib.Core.Path.{◌≡◌, refl, ◌∙◌}
-use Prim.Native.Nat.{◌≤◌, ◌-◌}
+use mathlib.Core.Path.{refl, ◌∙◌}
 use native.Mathlib.Omega.{arith}
-use lib.ListN.{length, take}
-use Rattle.text.specs.Hexadecimal.{hexadecimal}
-use Rattle.text.proofs.Printing.{laid, parts, Laid, hex_none, hex_more, hex_all}
-use borrow.Author.Rules.{rules}
+use Rattle.text.proofs.Printing.{laid, parts, hex_none, hex_more, hex_all}
 use Rattle.text.proofs.put_hexadecimal.Goals as goal
 
 pub loop-i-init : goal.loop-i-init

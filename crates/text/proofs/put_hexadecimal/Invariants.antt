@@ -1,10 +1,8 @@
-use mathlib.Core.Path.{◌≡◌, refl, ◌∙◌}
+use mathlib.Core.Path.{◌≡◌}
 use Prim.Native.Nat.{◌≤◌, ◌-◌}
-use native.Mathlib.Omega.{arith}
 use lib.ListN.{length, take}
 use Rattle.text.specs.Hexadecimal.{hexadecimal}
-use Rattle.text.proofs.Printing.{laid, parts, Laid, hex_none, hex_more, hex_all}
-use borrow.Author.Rules.{rules}
+use Rattle.text.proofs.Printing.{Laid}
 use Rattle.text.proofs.put_hexadecimal.Given as goal
 
 abbrev pub invariant-loop-i : goal.invariant-loop-i

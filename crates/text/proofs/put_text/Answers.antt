@@ -1,7 +1,6 @@
 use mathlib.Core.Path.{refl}
 use Rattle.text.proofs.Printing.{parts, laid_part}
 use native.Mathlib.Omega.{arith}
-use borrow.Author.Rules.{rules}
 use Rattle.text.proofs.put_text.Goals as goal
 
 pub returns-then-n-out : goal.returns-then-n-out

@@ -1,6 +1,5 @@
 use mathlib.Core.Path.{◌∙◌}
 use Rattle.text.proofs.Reading.{no_number, one_digit, leading_zero, many_digits}
-use borrow.Author.Rules.{rules}
 use Rattle.text.proofs.read_decimal.Goals as goal
 
 pub returns-then-text-eq0 : goal.returns-then-text-eq0

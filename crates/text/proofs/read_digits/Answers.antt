@@ -1,10 +1,6 @@
-use mathlib.Core.Path.{◌≡◌, refl}
-use Prim.Native.Nat.{◌≤◌, ◌-◌}
+use mathlib.Core.Path.{refl}
 use native.Mathlib.Omega.{arith}
-use lib.ListN.{length, drop}
-use Rattle.text.specs.Decimal.{digits_from}
 use Rattle.text.proofs.Reading.{too_low, too_high, too_large, next_digit, no_digit}
-use borrow.Author.Rules.{rules}
 use Rattle.text.proofs.read_digits.Goals as goal
 
 pub loop-i-init : goal.loop-i-init

@@ -3,7 +3,6 @@ use lib.ListN.{length-take, length-drop}
 use Rattle.text.proofs.Reading.{even_length, bytes_count}
 use Rattle.text.proofs.Printing.{parts, laid_part}
 use native.Mathlib.Omega.{arith}
-use borrow.Author.Rules.{rules}
 use Rattle.text.proofs.read_hexadecimal.Goals as goal
 
 pub convert-requires : goal.convert-requires

@@ -1,10 +1,8 @@
-use mathlib.Core.Path.{◌≡◌, refl, ◌∙◌}
+use mathlib.Core.Path.{◌≡◌}
 use Prim.Native.Nat.{◌≤◌, ◌-◌}
-use native.Mathlib.Omega.{arith}
 use lib.ListN.{length, drop}
 use Rattle.text.specs.Hexadecimal.{bytes_of}
-use Rattle.text.proofs.Printing.{laid, parts, Left, left_all, left_none, left_more, pair_none, pair_cut, pair_wrong_first, pair_wrong_second, pair_read}
-use borrow.Author.Rules.{rules}
+use Rattle.text.proofs.Printing.{Left}
 use Rattle.text.proofs.read_pairs.Given as goal
 
 abbrev pub invariant-loop-i : goal.invariant-loop-i

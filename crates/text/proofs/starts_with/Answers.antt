@@ -1,10 +1,6 @@
-use mathlib.Core.Path.{◌≡◌, refl}
-use Prim.Native.Nat.{◌≤◌, ◌-◌}
+use mathlib.Core.Path.{refl}
 use native.Mathlib.Omega.{arith}
-use lib.ListN.{length, drop}
-use Rattle.text.specs.Words.{begins}
 use Rattle.text.proofs.Reading.{cut_short, differs, agrees, begun}
-use borrow.Author.Rules.{rules}
 use Rattle.text.proofs.starts_with.Goals as goal
 
 pub loop-i-init : goal.loop-i-init

@@ -1,4 +1,3 @@
-use borrow.Author.Rules.{rules}
 use native.Mathlib.Omega.{arith}
 use Rattle.time.specs.Time.{plus}
 use Rattle.time.proofs.saturating_add.Goals as goal

@@ -4,7 +4,6 @@ use native.Mathlib.Omega.{arith}
 use lib.ListN.{length-take}
 use lib.Seq.{take_all}
 use Rattle.wire.specs.Frame.{frame_of}
-use borrow.Author.Rules.{rules}
 use Rattle.wire.proofs.decode_frame.Goals as goal
 
 pub slice_bounds-frame_so_far-end : goal.slice_bounds-frame_so_far-end

@@ -1,6 +1,5 @@
 -- `wire::entry_at` meets its contract: each answer by the tests on the way.
 use Rattle.wire.proofs.Entries.{is_end, is_cut_length, is_cut_address, is_address}
-use borrow.Author.Rules.{rules}
 use Rattle.wire.proofs.entry_at.Goals as goal
 
 pub returns-then-list-at : goal.returns-then-list-at

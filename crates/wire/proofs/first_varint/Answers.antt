@@ -4,7 +4,6 @@ use native.Mathlib.Omega.{arith}
 use borrow.Author.Tests.{le-leb, lt-leb, lt-ltb, le-ltb, eq-eqb, ne_eqb}
 use Rattle.wire.specs.Varint.{varint_of}
 use Rattle.wire.proofs.Spans.{span_le}
-use borrow.Author.Rules.{rules}
 use Rattle.wire.proofs.first_varint.Goals as goal
 
 pub returns-then-n-eq0 : goal.returns-then-n-eq0

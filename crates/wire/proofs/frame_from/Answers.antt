@@ -2,7 +2,6 @@
 use mathlib.Core.Path.{sym}
 use borrow.Author.Tests.{lt-ltb, le-ltb, eq-eqb, ne_eqb}
 use Rattle.wire.specs.Frame.{frame_from}
-use borrow.Author.Rules.{rules}
 use Rattle.wire.proofs.frame_from.Goals as goal
 
 pub returns-then-count-eq0 : goal.returns-then-count-eq0

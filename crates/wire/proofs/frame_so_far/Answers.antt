@@ -1,7 +1,6 @@
 -- `wire::frame_so_far` meets its contract: a byte that is not there plays no part.
 use mathlib.Core.Path.{◌∙◌}
 use Rattle.wire.proofs.Frames.{none_there, one_there}
-use borrow.Author.Rules.{rules}
 use Rattle.wire.proofs.frame_so_far.Goals as goal
 
 pub returns-then-n-eq0 : goal.returns-then-n-eq0

@@ -1,11 +1,8 @@
 -- `wire::is_broken` meets its contract: the invariant: the list is broken just where what is left of it is.
-use mathlib.Core.Path.{◌≡◌, refl}
+use mathlib.Core.Path.{◌≡◌}
 use Prim.Native.Nat.{◌≤◌, ◌-◌}
-use native.Mathlib.Omega.{arith}
 use lib.ListN.{length, drop}
 use Rattle.wire.specs.Lists.{broken}
-use Rattle.wire.proofs.Entries.{stands, broken_on, not_broken, is_broken}
-use borrow.Author.Rules.{rules}
 use Rattle.wire.proofs.is_broken.Given as goal
 
 abbrev pub invariant-loop-end : goal.invariant-loop-end

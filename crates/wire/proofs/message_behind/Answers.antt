@@ -1,6 +1,5 @@
 -- `wire::message_behind` meets its contract: each answer by its test.
 use borrow.Author.Tests.{le-leb, lt-leb}
-use borrow.Author.Rules.{rules}
 use Rattle.wire.proofs.message_behind.Goals as goal
 
 pub returns-then-start-len : goal.returns-then-start-len

@@ -1,11 +1,8 @@
 -- `wire::put_bytes` meets its contract: the invariant: storing the bytes still to come gives what storing all gives.
-use mathlib.Core.Path.{◌≡◌, refl, sym, ◌∙◌}
-use Prim.Native.Nat.{◌≤◌, ◌-◌}
+use mathlib.Core.Path.{refl, sym, ◌∙◌}
 use native.Mathlib.Omega.{arith}
-use lib.ListN.{length, drop, length-set}
-use lib.Seq.{sets}
+use lib.ListN.{drop, length-set}
 use Rattle.wire.proofs.Stores.{sets_out, copies, copied}
-use borrow.Author.Rules.{rules}
 use Rattle.wire.proofs.put_bytes.Goals as goal
 
 pub loop-from-init : goal.loop-from-init

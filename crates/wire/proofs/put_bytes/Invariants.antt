@@ -1,11 +1,8 @@
 -- `wire::put_bytes` meets its contract: the invariant: storing the bytes still to come gives what storing all gives.
-use mathlib.Core.Path.{◌≡◌, refl, sym, ◌∙◌}
+use mathlib.Core.Path.{◌≡◌}
 use Prim.Native.Nat.{◌≤◌, ◌-◌}
-use native.Mathlib.Omega.{arith}
-use lib.ListN.{length, drop, length-set}
+use lib.ListN.{length, drop}
 use lib.Seq.{sets}
-use Rattle.wire.proofs.Stores.{sets_out, copies, copied}
-use borrow.Author.Rules.{rules}
 use Rattle.wire.proofs.put_bytes.Given as goal
 
 abbrev pub invariant-loop-from : goal.invariant-loop-from

@@ -4,7 +4,6 @@ use Prim.Native.Nat.{◌/◌, ◌%◌}
 use native.Mathlib.Omega.{arith}
 use lib.ListN.{length, length-set}
 use Rattle.wire.proofs.Stores.{no_entry, half_length, entry_stored}
-use borrow.Author.Rules.{rules}
 use Rattle.wire.proofs.put_entry.Goals as goal
 
 pub returns-then-out-at : goal.returns-then-out-at

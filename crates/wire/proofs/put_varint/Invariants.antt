@@ -1,13 +1,9 @@
 -- `wire::put_varint` meets its contract: the invariant: storing the groups still to come gives what storing all gives.
-use mathlib.Core.Path.{◌≡◌, sym, ◌∙◌}
+use mathlib.Core.Path.{◌≡◌}
 use Prim.Native.Nat.{◌+◌, ◌≤◌, ◌<◌, ◌-◌, ◌*◌, ◌^◌}
-use native.Mathlib.Omega.{arith}
-use lib.ListN.{length, length-set}
+use lib.ListN.{length}
 use lib.Seq.{sets}
 use Rattle.wire.specs.Varint.{groups, encoded}
-use Rattle.wire.proofs.Stores.{sets_out}
-use Rattle.wire.proofs.Groups.{not_last, stored_room, stores_on, stores_last, ten_left}
-use borrow.Author.Rules.{rules}
 use Rattle.wire.proofs.put_varint.Given as goal
 
 abbrev pub invariant-loop-v : goal.invariant-loop-v

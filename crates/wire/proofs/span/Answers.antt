@@ -1,10 +1,6 @@
 -- `wire::span` meets its contract: the invariant: the span of the whole is that of what is left, behind the bytes passed.
-use mathlib.Core.Path.{◌≡◌}
-use Prim.Native.Nat.{◌≤◌, ◌-◌}
 use native.Mathlib.Omega.{arith}
-use lib.ListN.{drop}
-use Rattle.wire.specs.Varint.{span_of}
-use Rattle.wire.proofs.Spans.{after, after_none, cut_short, found, goes_on, ten_passed}
+use Rattle.wire.proofs.Spans.{after_none, cut_short, found, goes_on, ten_passed}
 use borrow.Author.Rules.{rules}
 use Rattle.wire.proofs.span.Goals as goal
 

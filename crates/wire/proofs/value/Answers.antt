@@ -1,12 +1,11 @@
 -- `wire::value` meets its contract: the invariant: the number so far is that of the groups from i on, and there is room for those before them.
 use mathlib.Core.Path.{◌≡◌, sym, ap, ◌∙◌}
-use Prim.Native.Nat.{ℕ, ◌+◌, ◌≤◌, ◌<◌, ◌-◌, ◌*◌, ◌%◌, ◌^◌}
+use Prim.Native.Nat.{ℕ, ◌+◌, ◌-◌, ◌*◌, ◌%◌}
 use native.Mathlib.Omega.{arith}
 use lib.Pow.{pow_pos}
 use lib.ListN.{drop, take, get_or}
 use Rattle.wire.specs.Varint.{value_of}
 use Rattle.wire.proofs.Spans.{last_group, no_group, room, room_fits, tenth}
-use borrow.Author.Rules.{rules}
 use Rattle.wire.proofs.value.Goals as goal
 
 pub loop-i-init : goal.loop-i-init

@@ -1,12 +1,8 @@
 -- `wire::value` meets its contract: the invariant: the number so far is that of the groups from i on, and there is room for those before them.
-use mathlib.Core.Path.{◌≡◌, sym, ap, ◌∙◌}
-use Prim.Native.Nat.{ℕ, ◌+◌, ◌≤◌, ◌<◌, ◌-◌, ◌*◌, ◌%◌, ◌^◌}
-use native.Mathlib.Omega.{arith}
-use lib.Pow.{pow_pos}
-use lib.ListN.{drop, take, get_or}
+use mathlib.Core.Path.{◌≡◌}
+use Prim.Native.Nat.{◌≤◌, ◌<◌, ◌-◌, ◌*◌, ◌^◌}
+use lib.ListN.{drop, take}
 use Rattle.wire.specs.Varint.{value_of}
-use Rattle.wire.proofs.Spans.{last_group, no_group, room, room_fits, tenth}
-use borrow.Author.Rules.{rules}
 use Rattle.wire.proofs.value.Given as goal
 
 abbrev pub invariant-loop-i : goal.invariant-loop-i

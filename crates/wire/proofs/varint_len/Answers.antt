@@ -1,11 +1,9 @@
 -- `wire::varint_len` meets its contract: the invariant: the groups counted and those still to come make up the whole form.
 use mathlib.Core.Path.{◌≡◌, refl, ap}
-use Prim.Native.Nat.{◌+◌, ◌≤◌, ◌<◌, ◌-◌, ◌*◌, ◌^◌}
+use Prim.Native.Nat.{◌+◌, ◌-◌}
 use native.Mathlib.Omega.{arith}
 use lib.ListN.{length}
-use Rattle.wire.specs.Varint.{groups, encoded}
 use Rattle.wire.proofs.Groups.{last_one, not_last, less_room, counted}
-use borrow.Author.Rules.{rules}
 use Rattle.wire.proofs.varint_len.Goals as goal
 
 pub loop-left-init : goal.loop-left-init

@@ -1,11 +1,8 @@
 -- `wire::varint_len` meets its contract: the invariant: the groups counted and those still to come make up the whole form.
-use mathlib.Core.Path.{◌≡◌, refl, ap}
+use mathlib.Core.Path.{◌≡◌}
 use Prim.Native.Nat.{◌+◌, ◌≤◌, ◌<◌, ◌-◌, ◌*◌, ◌^◌}
-use native.Mathlib.Omega.{arith}
 use lib.ListN.{length}
 use Rattle.wire.specs.Varint.{groups, encoded}
-use Rattle.wire.proofs.Groups.{last_one, not_last, less_room, counted}
-use borrow.Author.Rules.{rules}
 use Rattle.wire.proofs.varint_len.Given as goal
 
 abbrev pub invariant-loop-left : goal.invariant-loop-left

@@ -1,6 +1,5 @@
 use Rattle.budget.specs.Budget.{armed}
 use mathlib.Core.Path.{sym}
-use borrow.Author.Rules.{rules}
 use Rattle.budget.proofs.UpgradeBudget.arm.Goals as goal
 
 pub returns : goal.returns

@@ -2,7 +2,6 @@ use Rattle.budget.specs.Budget.{begun, one_more, with_exchange}
 use Rattle.budget.proofs.Laws.{may_rounds}
 use mathlib.Core.Path.{sym, ◌∙◌}
 use native.Mathlib.Omega.{arith}
-use borrow.Author.Rules.{rules}
 use Rattle.budget.proofs.UpgradeBudget.begin_round.Goals as goal
 
 pub overflow_add-self : goal.overflow_add-self

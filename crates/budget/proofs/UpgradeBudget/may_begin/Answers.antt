@@ -1,6 +1,5 @@
 use Rattle.budget.specs.Budget.{may_begin}
 use mathlib.Core.Path.{sym}
-use borrow.Author.Rules.{rules}
 use Rattle.budget.proofs.UpgradeBudget.may_begin.Goals as goal
 
 pub returns-then-rounds_left : goal.returns-then-rounds_left

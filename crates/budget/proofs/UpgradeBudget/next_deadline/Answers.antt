@@ -1,6 +1,5 @@
 use Rattle.budget.specs.Budget.{next_deadline}
 use mathlib.Core.Path.{sym}
-use borrow.Author.Rules.{rules}
 use Rattle.budget.proofs.UpgradeBudget.next_deadline.Goals as goal
 
 pub returns-in-Running : goal.returns-in-Running

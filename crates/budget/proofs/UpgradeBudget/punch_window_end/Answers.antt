@@ -1,6 +1,5 @@
 use Rattle.budget.specs.Budget.{window_end}
 use mathlib.Core.Path.{sym}
-use borrow.Author.Rules.{rules}
 use Rattle.budget.proofs.UpgradeBudget.punch_window_end.Goals as goal
 
 pub returns : goal.returns

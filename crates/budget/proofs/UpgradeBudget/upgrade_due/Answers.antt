@@ -1,7 +1,6 @@
 use Rattle.budget.specs.Budget.{upgrade_due}
 use borrow.Author.Tests.{le-leb, lt-leb}
 use mathlib.Core.Path.{sym}
-use borrow.Author.Rules.{rules}
 use Rattle.budget.proofs.UpgradeBudget.upgrade_due.Goals as goal
 
 pub returns-then-now-self : goal.returns-then-now-self

@@ -2,7 +2,6 @@
 use mathlib.Core.Path.{ap}
 use Rattle.candidates.specs.declared.Limits.{Limits}
 use Rattle.candidates.specs.declared.Terms.{Terms}
-use borrow.Author.Rules.{rules}
 use Rattle.candidates.proofs.Terms.usual.Goals as goal
 
 pub returns : goal.returns

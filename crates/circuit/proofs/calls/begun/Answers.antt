@@ -1,6 +1,5 @@
 use Rattle.circuit.specs.Calls.{begun_of}
 use mathlib.Core.Path.{sym}
-use borrow.Author.Rules.{rules}
 use Rattle.circuit.proofs.calls.begun.Goals as goal
 
 pub returns : goal.returns

@@ -1,6 +1,5 @@
 use borrow.Author.Tests.{eq-eqb, ne_eqb}
 use mathlib.Core.Path.{sym}
-use borrow.Author.Rules.{rules}
 use Rattle.circuit.proofs.calls.written.Goals as goal
 
 pub returns-then-on-conn : goal.returns-then-on-conn

@@ -1,7 +1,6 @@
 use Rattle.circuit.specs.Decisions.{burst_of}
 use borrow.Author.Tests.{eq-eqb, ne_eqb}
 use mathlib.Core.Path.{sym}
-use borrow.Author.Rules.{rules}
 use Rattle.circuit.proofs.decision.burst.Goals as goal
 
 pub returns-then-times-eq0 : goal.returns-then-times-eq0

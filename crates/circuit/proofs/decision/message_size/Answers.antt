@@ -1,7 +1,6 @@
 use Rattle.circuit.specs.Decisions.{length_of}
 use mathlib.Core.Path.{ap}
 use Rattle.frames.specs.declared.Framed.{Framed}
-use borrow.Author.Rules.{rules}
 use Rattle.circuit.proofs.decision.message_size.Goals as goal
 
 pub returns-in-None : goal.returns-in-None

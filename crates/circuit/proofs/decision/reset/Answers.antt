@@ -1,6 +1,5 @@
 use Rattle.circuit.specs.Decisions.{reset_of}
 use mathlib.Core.Path.{sym}
-use borrow.Author.Rules.{rules}
 use Rattle.circuit.proofs.decision.reset.Goals as goal
 
 pub returns : goal.returns

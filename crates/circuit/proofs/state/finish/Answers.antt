@@ -1,6 +1,5 @@
 use Rattle.circuit.specs.State.{done_of}
 use mathlib.Core.Path.{sym}
-use borrow.Author.Rules.{rules}
 use Rattle.circuit.proofs.state.finish.Goals as goal
 
 pub returns : goal.returns

@@ -3,7 +3,6 @@ use mathlib.Core.Path.{ap}
 use mathlib.Core.List.{List}
 use Prim.Native.Nat.{ℕ}
 use Rattle.frames.specs.declared.Framed.{Framed}
-use borrow.Author.Rules.{rules}
 use Rattle.frames.proofs.Framed.empty.Goals as goal
 
 pub returns : goal.returns

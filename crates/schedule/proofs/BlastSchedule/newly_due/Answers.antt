@@ -2,7 +2,6 @@ use mathlib.Core.Path.{sym}
 use Rattle.prelude.specs.Lists.{count}
 use Rattle.schedule.specs.Schedule.{due_of, times_of, without, ahead}
 use Rattle.schedule.specs.Instants.{count_to}
-use borrow.Author.Rules.{rules}
 use Rattle.schedule.proofs.BlastSchedule.newly_due.Goals as goal
 
 pub returns-in-Next : goal.returns-in-Next

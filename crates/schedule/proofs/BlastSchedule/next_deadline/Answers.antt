@@ -1,6 +1,5 @@
 use mathlib.Core.Path.{sym}
 use Rattle.schedule.specs.Schedule.{next_of}
-use borrow.Author.Rules.{rules}
 use Rattle.schedule.proofs.BlastSchedule.next_deadline.Goals as goal
 
 pub returns-in-Next : goal.returns-in-Next

@@ -1,7 +1,6 @@
 use borrow.Author.Tests.{eq-eqb, ne_eqb}
 use mathlib.Core.Path.{sym}
 use Rattle.schedule.specs.Schedule.{opened_of}
-use borrow.Author.Rules.{rules}
 use Rattle.schedule.proofs.BlastSchedule.open.Goals as goal
 
 pub returns-then-rtt-eq0 : goal.returns-then-rtt-eq0

@@ -1,5 +1,4 @@
 use mathlib.Core.Path.{sym}
-use borrow.Author.Rules.{rules}
 use Rattle.upgrade.proofs.tick.tick.Goals as goal
 
 pub returns-in-Handshaking : goal.returns-in-Handshaking

@@ -1,7 +1,6 @@
 use Rattle.upgrade.specs.Ticks.{tick_exchange}
 use borrow.Author.Tests.{le-leb, lt-leb, lt-ltb, le-ltb}
 use mathlib.Core.Path.{sym}
-use borrow.Author.Rules.{rules}
 use Rattle.upgrade.proofs.tick.tick_exchange.Goals as goal
 
 pub returns-in-None : goal.returns-in-None

@@ -1,7 +1,6 @@
 use Rattle.upgrade.specs.Ticks.{tick_punching}
 use borrow.Author.Tests.{le-leb, lt-leb, lt-ltb, le-ltb}
 use mathlib.Core.Path.{sym}
-use borrow.Author.Rules.{rules}
 use Rattle.upgrade.proofs.tick.tick_punching.Goals as goal
 
 pub returns-then-budget-host : goal.returns-then-budget-host

@@ -1,6 +1,5 @@
 use Rattle.upgrade.specs.Ups.{announced}
 use mathlib.Core.Path.{sym}
-use borrow.Author.Rules.{rules}
 use Rattle.upgrade.proofs.up.announce_path.Goals as goal
 
 pub returns-then-settings : goal.returns-then-settings

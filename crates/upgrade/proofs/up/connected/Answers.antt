@@ -1,7 +1,6 @@
 use Rattle.upgrade.specs.Ups.{connected_of}
 use borrow.Author.Tests.{eq-eqb, ne_eqb}
 use mathlib.Core.Path.{sym}
-use borrow.Author.Rules.{rules}
 use Rattle.upgrade.proofs.up.connected.Goals as goal
 
 pub returns-then-peer-source : goal.returns-then-peer-source

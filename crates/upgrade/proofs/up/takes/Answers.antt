@@ -1,7 +1,6 @@
 use Rattle.upgrade.specs.Ups.{took_of}
 use borrow.Author.Tests.{eq-eqb, ne_eqb}
 use mathlib.Core.Path.{sym}
-use borrow.Author.Rules.{rules}
 use Rattle.upgrade.proofs.up.takes.Goals as goal
 
 pub returns-then-is_done : goal.returns-then-is_done

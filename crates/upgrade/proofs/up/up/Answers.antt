@@ -1,6 +1,5 @@
 use Rattle.upgrade.specs.Ups.{up_at}
 use mathlib.Core.Path.{sym}
-use borrow.Author.Rules.{rules}
 use Rattle.upgrade.proofs.up.up.Goals as goal
 
 pub returns : goal.returns

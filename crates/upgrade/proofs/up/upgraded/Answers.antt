@@ -1,6 +1,5 @@
 use Rattle.upgrade.specs.Ups.{upgraded_of}
 use mathlib.Core.Path.{sym}
-use borrow.Author.Rules.{rules}
 use Rattle.upgrade.proofs.up.upgraded.Goals as goal
 
 pub returns : goal.returns

@@ -6,7 +6,6 @@ use Prim.Native.Nat.{ℕ, ◌+◌, ◌-◌, ◌<◌, ◌≤◌}
 use lib.Dec.{ltb}
 use native.Mathlib.Omega.{arith}
 use Rattle.time.specs.Time.{last}
-use borrow.Author.Rules.{rules}
 use Rattle.circuit.proofs.state.Core.new.Goals as goal
 
 past-last : (at long : ℕ) → last - at < long → ltb last (at + long) ≡ true

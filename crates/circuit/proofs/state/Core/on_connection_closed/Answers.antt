@@ -1,7 +1,6 @@
 use Rattle.circuit.specs.Calls.{down_of}
 use borrow.Author.Tests.{eq-eqb, ne_eqb}
 use mathlib.Core.Path.{sym}
-use borrow.Author.Rules.{rules}
 use Rattle.circuit.proofs.state.Core.on_connection_closed.Goals as goal
 
 pub returns-then-conn-circuit : goal.returns-then-conn-circuit

@@ -1,6 +1,5 @@
 use Rattle.circuit.specs.Calls.{wrote_of}
 use mathlib.Core.Path.{sym}
-use borrow.Author.Rules.{rules}
 use Rattle.circuit.proofs.state.Core.on_write_completed.Goals as goal
 
 pub returns : goal.returns
