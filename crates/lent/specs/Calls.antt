@@ -1,6 +1,6 @@
 -- The calls over lent bytes (RULES.md, sections 11.3 to 11.7): what each decides.
 use Rattle.std.specs.Prelude.{ℕ, Bool, true, false, List, ltb, length}
-use Rattle.prelude.specs.Choice.{pick, both, no}
+use Rattle.prelude.specs.Choice.{pick, both}
 use Rattle.ids.specs.declared.ConnectionId.{ConnectionId}
 use Rattle.ids.specs.declared.StreamId.{StreamId}
 use Rattle.ids.specs.declared.PeerId.{PeerId}

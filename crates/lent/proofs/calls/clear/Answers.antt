@@ -1,6 +1,5 @@
 use mathlib.Core.Path.{◌∙◌, ap}
 use Rattle.candidates.specs.declared.Chosen.{Chosen}
-use borrow.Author.Rules.{rules}
 use Rattle.lent.proofs.calls.clear.Goals as goal
 
 pub returns : goal.returns

@@ -1,6 +1,5 @@
 use Rattle.lent.proofs.Hears.{heard_then}
 use Rattle.carried.specs.Carried.{targets_after}
-use borrow.Author.Rules.{rules}
 use Rattle.lent.proofs.calls.hear.Goals as goal
 
 pub returns : goal.returns

@@ -2,7 +2,6 @@ use Rattle.lent.proofs.Hears.{short_left, turned_left, heard_left, unheard_left}
 use Rattle.carried.specs.Carried.{targets_after}
 use Rattle.lent.specs.Calls.{input_in}
 use Rattle.lent.specs.Calls.{buffer_after}
-use borrow.Author.Rules.{rules}
 use Rattle.lent.proofs.calls.input_in.Goals as goal
 
 pub returns-then-buffer-lt-MAX_FRAME_SIZE : goal.returns-then-buffer-lt-MAX_FRAME_SIZE

@@ -1,7 +1,6 @@
 use Rattle.lent.specs.Calls.{input_of}
 use Rattle.circuit.specs.State.{terms_of}
 use Rattle.lent.proofs.Hears.{done_input}
-use borrow.Author.Rules.{rules}
 use Rattle.lent.proofs.calls.on_dcutr_stream_input.Goals as goal
 
 pub returns : goal.returns

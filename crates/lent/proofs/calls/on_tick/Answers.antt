@@ -1,7 +1,6 @@
 use Rattle.lent.specs.Calls.{tick_of}
 use Rattle.circuit.specs.State.{terms_of}
 use Rattle.carried.proofs.Carries.{done}
-use borrow.Author.Rules.{rules}
 use Rattle.lent.proofs.calls.on_tick.Goals as goal
 
 pub returns : goal.returns

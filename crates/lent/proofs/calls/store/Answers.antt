@@ -1,4 +1,3 @@
-use borrow.Author.Rules.{rules}
 use Rattle.lent.proofs.calls.store.Goals as goal
 
 pub returns-then-accepted : goal.returns-then-accepted

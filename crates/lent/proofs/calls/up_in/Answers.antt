@@ -1,6 +1,5 @@
 use Rattle.lent.specs.Calls.{up_in}
 use mathlib.Core.Path.{sym}
-use borrow.Author.Rules.{rules}
 use Rattle.lent.proofs.calls.up_in.Goals as goal
 
 pub returns-in-Refused : goal.returns-in-Refused

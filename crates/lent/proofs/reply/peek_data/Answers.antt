@@ -2,7 +2,6 @@
 use Rattle.lent.proofs.Replies.{peek_more, peek_failed, peek_within, peek_connect, peek_long}
 use lib.ListN.{length-take}
 use native.Mathlib.Omega.{arith}
-use borrow.Author.Rules.{rules}
 use Rattle.lent.proofs.reply.peek_data.Goals as goal
 
 pub returns-in-More : goal.returns-in-More

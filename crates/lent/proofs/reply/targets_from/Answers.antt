@@ -2,7 +2,6 @@
 use mathlib.Core.Path.{ap}
 use Rattle.candidates.specs.declared.Selection.{Selection}
 use Rattle.lent.specs.Replies.{chosen_from}
-use borrow.Author.Rules.{rules}
 use Rattle.lent.proofs.reply.targets_from.Goals as goal
 
 pub returns : goal.returns
