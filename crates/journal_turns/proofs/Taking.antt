@@ -10,7 +10,6 @@ use Rattle.prelude.specs.Choice.{pick, both, no}
 use Rattle.time.specs.Time.{plus}
 use Rattle.refusal.specs.declared.Refusal.TheVariants.{UnknownLine, NotStarted}
 use Rattle.ledger.specs.Ledger.{tables_of}
-use Rattle.vocabulary.specs.declared.Outcome.TheVariants.{Refused}
 use Rattle.journal_lines.specs.declared.Line.{Line}
 use Rattle.journal_calls.specs.declared.State.{State}
 use Rattle.journal_calls.specs.declared.Turn.{Turn}

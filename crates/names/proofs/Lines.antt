@@ -18,14 +18,14 @@ use Rattle.refusal.specs.declared.Refusal.TheVariants.{LedgerFull, NotStarted, U
 use Rattle.path.specs.declared.FoundPath.{FoundPath}
 use Rattle.path.specs.declared.FoundPath.TheVariants as found
 use Rattle.path.specs.declared.Path.TheVariants.{Relayed, Punched}
-use Rattle.path.specs.declared.Owner.TheVariants.{Inbound, None}
+use Rattle.path.specs.declared.Owner.TheVariants.{Inbound}
 use Rattle.path.specs.declared.Claim.TheVariants as claim
 use Rattle.path.specs.declared.DialPurpose.TheVariants.{Punch}
 use Rattle.path.specs.Judged.{judged, circuit_path, direct_path, by_dial, by_claim, by_window, unowned}
 use Rattle.rows.specs.Rows.{inserted, crowded}
 use Rattle.entries.specs.Entries.{dial_at}
 use Rattle.ledger.specs.declared.Answer.TheVariants as name
-use Rattle.ledger.specs.Ledger.{PathLedger, Attributed, empty_ledger, dials_of, windows_of, paths_of, with_dials, with_paths, dial_row, path_row, full_or, dial_started, attributed, recorded, judged_by, ticked, refuses_punches}
+use Rattle.ledger.specs.Ledger.{PathLedger, Attributed, empty_ledger, dials_of, windows_of, paths_of, with_dials, with_paths, dial_row, path_row, full_or, dial_started, attributed, recorded, judged_by, refuses_punches}
 use Rattle.budget.specs.declared.UpgradeBudget.{UpgradeBudget}
 use Rattle.candidates.specs.declared.Chosen.{Chosen}
 use Rattle.frames.specs.declared.Framed.{Framed}
@@ -54,7 +54,6 @@ use Rattle.inbound.specs.Circuits.{answer_of, new_answer, up_answer, tick_answer
 use Rattle.questions.specs.Questions.{claim_of}
 use Rattle.history.specs.Calls.{Call, up, input, tick, wrote, down, is_refused, step_of}
 use Rattle.history.specs.Book.{Stage, Who, fresh, note}
-use Rattle.history.specs.Demand3.{begun}
 use Rattle.history.specs.Tells.{Says, send, Lot, stays, removed, until, Told, nothing, gathers, tells}
 use Rattle.history.specs.Answers.{bytes_of, said_in, said_by, said, back, leaves, left_of, Room, Noted, buffer, buffer_is, who_of}
 use Rattle.history.specs.Questions.{is_over}

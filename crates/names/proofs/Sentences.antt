@@ -10,10 +10,7 @@ use lib.Dec.{eqb, ltb}
 use Rattle.prelude.specs.Choice.{pick, both, either}
 use Rattle.ids.specs.declared.PeerId.{PeerId}
 use Rattle.ids.specs.declared.ConnectionId.{ConnectionId}
-use Rattle.ids.specs.declared.ConnectId.{ConnectId}
 use Rattle.path.specs.declared.Attribution.{Attribution}
-use Rattle.path.specs.declared.Path.TheVariants.{Punched}
-use Rattle.path.specs.declared.Owner.TheVariants.{Attempt}
 use Rattle.names.specs.Events.{Event, dialed, got_name, forgot, replied, gave_up, ticked, awaited, punched_for, Lasts, Awaits, AwaitedIs, Untouched, Since, Latest, by_dial, by_forget, FromHistory}
 use Rattle.names.specs.Events as event
 

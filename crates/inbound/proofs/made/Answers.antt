@@ -1,6 +1,5 @@
 use Rattle.inbound.specs.Circuits.{answer_of}
 use mathlib.Core.Path.{sym}
-use borrow.Author.Rules.{rules}
 use Rattle.inbound.proofs.made.Goals as goal
 
 pub returns : goal.returns

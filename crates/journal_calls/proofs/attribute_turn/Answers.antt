@@ -1,6 +1,5 @@
 use Rattle.ledger.specs.Ledger.{tables_of}
 use Rattle.journal_calls.proofs.Turning.{named_turn}
-use borrow.Author.Rules.{rules}
 use Rattle.journal_calls.proofs.attribute_turn.Goals as goal
 
 pub returns-in-Path : goal.returns-in-Path

@@ -1,6 +1,5 @@
 use Rattle.journal_calls.specs.Calls.{claim_for}
 use mathlib.Core.Path.{sym}
-use borrow.Author.Rules.{rules}
 use Rattle.journal_calls.proofs.claim_for.Goals as goal
 
 pub returns-then-circuit : goal.returns-then-circuit

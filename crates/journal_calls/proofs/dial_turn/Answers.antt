@@ -2,7 +2,6 @@ use Rattle.journal_calls.specs.Calls.{saying, said_of}
 use Rattle.vocabulary.specs.declared.Outcome.{Outcome}
 use mathlib.Core.Path.{◌∙◌, ap}
 use mathlib.Core.Path.{sym}
-use borrow.Author.Rules.{rules}
 use Rattle.journal_calls.proofs.dial_turn.Goals as goal
 
 pub returns-in-Refused : goal.returns-in-Refused

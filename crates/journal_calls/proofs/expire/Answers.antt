@@ -1,7 +1,6 @@
 use Rattle.ledger.proofs.Laws.{laid_same}
 use mathlib.Core.Path.{refl}
 use mathlib.Core.Path.{sym}
-use borrow.Author.Rules.{rules}
 use Rattle.journal_calls.proofs.expire.Goals as goal
 
 pub returns-in-Accepted : goal.returns-in-Accepted

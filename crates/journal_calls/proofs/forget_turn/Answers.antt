@@ -1,4 +1,3 @@
-use borrow.Author.Rules.{rules}
 use Rattle.journal_calls.proofs.forget_turn.Goals as goal
 
 pub returns : goal.returns

@@ -1,5 +1,4 @@
 use Rattle.journal_calls.proofs.Turning.{all, input_left}
-use borrow.Author.Rules.{rules}
 use Rattle.journal_calls.proofs.input_turn.Goals as goal
 
 pub returns : goal.returns

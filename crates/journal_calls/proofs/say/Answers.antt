@@ -1,6 +1,5 @@
 use Rattle.journal_calls.specs.Calls.{saying}
 use mathlib.Core.Path.{sym}
-use borrow.Author.Rules.{rules}
 use Rattle.journal_calls.proofs.say.Goals as goal
 
 pub returns : goal.returns

@@ -1,5 +1,4 @@
 use mathlib.Core.Path.{sym}
-use borrow.Author.Rules.{rules}
 use Rattle.journal_calls.proofs.settle.Goals as goal
 
 pub returns-in-Refused : goal.returns-in-Refused

@@ -1,5 +1,4 @@
 use Rattle.journal_calls.proofs.Turning.{start_refused, start_accepted}
-use borrow.Author.Rules.{rules}
 use Rattle.journal_calls.proofs.start_turn.Goals as goal
 
 pub returns-in-Refused : goal.returns-in-Refused

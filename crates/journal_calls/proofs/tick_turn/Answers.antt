@@ -1,7 +1,6 @@
 use Rattle.lent.specs.Calls.{tick_of}
 use Rattle.ledger.specs.Ledger.{tables_of}
 use Rattle.journal_calls.proofs.Turning.{ticked_turn}
-use borrow.Author.Rules.{rules}
 use Rattle.journal_calls.proofs.tick_turn.Goals as goal
 
 pub returns : goal.returns

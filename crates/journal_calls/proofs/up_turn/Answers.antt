@@ -1,7 +1,6 @@
 use Rattle.journal_calls.specs.Calls.{settled_in}
 use Rattle.circuit.specs.declared.decision.Decision.{Decision}
 use mathlib.Core.Path.{◌∙◌, ap}
-use borrow.Author.Rules.{rules}
 use Rattle.journal_calls.proofs.up_turn.Goals as goal
 
 pub returns : goal.returns

@@ -1,6 +1,5 @@
 use Rattle.journal_effects.specs.Effects.{no_effect}
 use mathlib.Core.Path.{sym}
-use borrow.Author.Rules.{rules}
 use Rattle.journal_effects.proofs.is_empty.Goals as goal
 
 pub returns-then-is_missing-3 : goal.returns-then-is_missing-3

@@ -3,7 +3,6 @@ use Rattle.journal_prints.specs.Room.{is_path, is_upgrade, is_close, is_reset, i
 use Rattle.journal_prints.proofs.Room.{short}
 use Rattle.text.proofs.Printing.{laid, length_kept}
 use native.Mathlib.Omega.{arith}
-use borrow.Author.Rules.{rules}
 use Rattle.journal_effects.proofs.put_effect.Goals as goal
 
 pub returns-in-Nothing : goal.returns-in-Nothing

@@ -5,7 +5,6 @@ use Rattle.journal_prints.proofs.Room.{short}
 use Rattle.text.proofs.Printing.{laid, length_kept}
 use mathlib.Core.Path.{sym}
 use native.Mathlib.Omega.{arith}
-use borrow.Author.Rules.{rules}
 use Rattle.journal_effects.proofs.put_effects.Goals as goal
 
 pub shape_of-out-then-is_empty : goal.shape_of-out-then-is_empty

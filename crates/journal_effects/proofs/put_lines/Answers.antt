@@ -2,7 +2,6 @@ use Rattle.journal_effects.proofs.Short.{joined}
 use Rattle.journal_effects.specs.Effects.{lines_text}
 use Rattle.text.proofs.Printing.{laid, length_kept}
 use mathlib.Core.Path.{◌∙◌}
-use borrow.Author.Rules.{rules}
 use Rattle.journal_effects.proofs.put_lines.Goals as goal
 
 pub shape_of-out : goal.shape_of-out

@@ -3,7 +3,6 @@ use mathlib.Core.Path.{sym}
 use lib.ListN.{length-take}
 use native.Mathlib.Omega.{arith}
 use Rattle.text.proofs.Printing.{laid, length_kept}
-use borrow.Author.Rules.{rules}
 use Rattle.journal_effects.proofs.put_targets.Goals as goal
 
 pub shape_of-out-then-bytes-size : goal.shape_of-out-then-bytes-size

@@ -1,7 +1,6 @@
 use Rattle.ledger.specs.Ledger.{tables_of}
 use Rattle.journal_calls.specs.Calls.{whole}
 use Rattle.journal_text.proofs.Lines.{line_answered}
-use borrow.Author.Rules.{rules}
 use Rattle.journal_text.proofs.answer_line.Goals as goal
 
 pub returns : goal.returns

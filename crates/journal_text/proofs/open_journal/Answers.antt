@@ -3,7 +3,6 @@ use Rattle.text.proofs.Printing.{parts, laid_none}
 use Rattle.journal_calls.specs.Calls.{new_journal, state_of}
 use Rattle.vocabulary.specs.declared.Settings.{Settings}
 use Rattle.journal_text.specs.Texts.{settings_in, opened}
-use borrow.Author.Rules.{rules}
 use Rattle.journal_text.proofs.open_journal.Goals as goal
 
 pub returns-in-Settings : goal.returns-in-Settings

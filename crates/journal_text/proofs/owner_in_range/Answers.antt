@@ -1,5 +1,4 @@
 use Rattle.journal_text.proofs.Ranges.{attempt_fits, inbound_fits, none_fits}
-use borrow.Author.Rules.{rules}
 use Rattle.journal_text.proofs.owner_in_range.Goals as goal
 
 pub returns-in-Attempt : goal.returns-in-Attempt

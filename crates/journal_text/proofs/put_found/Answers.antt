@@ -1,6 +1,5 @@
 use native.Mathlib.Omega.{arith}
 use Rattle.journal_text.proofs.Ranges.{named_short, unnamed_short}
-use borrow.Author.Rules.{rules}
 use Rattle.journal_text.proofs.put_found.Goals as goal
 
 pub returns-in-At : goal.returns-in-At

@@ -1,6 +1,5 @@
 use native.Mathlib.Omega.{arith}
 use Rattle.journal_text.proofs.Ranges.{refused_short}
-use borrow.Author.Rules.{rules}
 use Rattle.journal_text.proofs.put_said.Goals as goal
 
 pub returns-in-Effects : goal.returns-in-Effects

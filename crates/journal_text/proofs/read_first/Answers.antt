@@ -1,7 +1,6 @@
 use mathlib.Core.Path.{sym}
 use borrow.Author.Tests.{lt-ltb, le-ltb}
 use Rattle.journal_text.specs.Texts.{first_of}
-use borrow.Author.Rules.{rules}
 use Rattle.journal_text.proofs.read_first.Goals as goal
 
 pub returns-then-line-lt-LONGEST : goal.returns-then-line-lt-LONGEST

@@ -1,4 +1,3 @@
-use borrow.Author.Rules.{rules}
 use Rattle.journal_text.proofs.settings_in.Goals as goal
 
 pub returns-in-Settings : goal.returns-in-Settings

@@ -1,6 +1,5 @@
 use mathlib.Core.Path.{refl}
 use Rattle.journal_calls.proofs.Turning.{all, start_left, up_left, tick_left, wrote_left, down_left, dial_left, forget_left, attribute_left, refused_left}
-use borrow.Author.Rules.{rules}
 use Rattle.journal_turns.proofs.make_call.Goals as goal
 
 pub returns-in-Start : goal.returns-in-Start

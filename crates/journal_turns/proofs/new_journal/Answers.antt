@@ -1,6 +1,5 @@
 use Rattle.journal_calls.specs.Calls.{new_journal}
 use mathlib.Core.Path.{sym}
-use borrow.Author.Rules.{rules}
 use Rattle.journal_turns.proofs.new_journal.Goals as goal
 
 pub returns : goal.returns

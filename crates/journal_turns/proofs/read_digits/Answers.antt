@@ -1,5 +1,4 @@
 use Rattle.journal_turns.proofs.Digits.{read_none, read_some}
-use borrow.Author.Rules.{rules}
 use Rattle.journal_turns.proofs.read_digits.Goals as goal
 
 pub returns-then-end-start : goal.returns-then-end-start

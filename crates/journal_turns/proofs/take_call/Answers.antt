@@ -3,7 +3,6 @@ use Rattle.ledger.specs.Ledger.{tables_of}
 use mathlib.Core.Path.{◌∙◌}
 use Rattle.journal_turns.proofs.Taking.{taken_call, untaken_call, free_call}
 use mathlib.Core.Path.{sym}
-use borrow.Author.Rules.{rules}
 use Rattle.journal_turns.proofs.take_call.Goals as goal
 
 pub returns-then-j : goal.returns-then-j

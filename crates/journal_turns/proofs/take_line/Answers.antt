@@ -5,7 +5,6 @@ use Rattle.journal_turns.proofs.Taking.{unread_line, both_false, none_false}
 use Rattle.journal_turns.specs.Turns.{counted, read, line_turn}
 use mathlib.Core.Path.{sym}
 use borrow.Author.Tests.{lt-ltb, le-ltb}
-use borrow.Author.Rules.{rules}
 use Rattle.journal_turns.proofs.take_line.Goals as goal
 
 pub returns-then-line-lt-LONGEST : goal.returns-then-line-lt-LONGEST

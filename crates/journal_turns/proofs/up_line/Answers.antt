@@ -2,7 +2,6 @@ use lib.ListN.{length-take}
 use native.Mathlib.Omega.{arith}
 use mathlib.Core.Path.{sym}
 use Rattle.journal_turns.proofs.Digits.{within, long, whole}
-use borrow.Author.Rules.{rules}
 use Rattle.journal_turns.proofs.up_line.Goals as goal
 
 pub slice_bounds-few-end : goal.slice_bounds-few-end

@@ -3,7 +3,6 @@ use mathlib.Core.Path.{ap}
 use Rattle.inbound.proofs.Answering.{made_plainly, started_silent}
 use Rattle.inbound.specs.Circuits.{answer_of}
 use Rattle.inbound.specs.Circuits.{new_answer}
-use borrow.Author.Rules.{rules}
 use Rattle.inbound.proofs.InboundCircuit.new.Goals as goal
 
 pub returns : goal.returns

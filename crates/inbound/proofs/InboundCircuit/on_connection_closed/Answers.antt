@@ -7,7 +7,6 @@ use mathlib.Core.Path.{refl}
 use Rattle.inbound.proofs.Answering.{made_plainly}
 use Rattle.inbound.specs.Circuits.{answer_of}
 use Rattle.inbound.specs.Circuits.{down_answer}
-use borrow.Author.Rules.{rules}
 use Rattle.inbound.proofs.InboundCircuit.on_connection_closed.Goals as goal
 
 pub returns : goal.returns

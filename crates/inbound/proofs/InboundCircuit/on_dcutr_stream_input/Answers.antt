@@ -2,7 +2,6 @@ use Rattle.inbound.specs.Circuits.{answer_of}
 use Rattle.inbound.proofs.Answering.{made_answer}
 use Rattle.inbound.specs.Circuits.{input_buffer}
 use Rattle.inbound.specs.Circuits.{input_answer}
-use borrow.Author.Rules.{rules}
 use Rattle.inbound.proofs.InboundCircuit.on_dcutr_stream_input.Goals as goal
 
 pub returns : goal.returns

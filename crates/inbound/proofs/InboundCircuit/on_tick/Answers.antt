@@ -2,7 +2,6 @@ use Rattle.inbound.specs.Circuits.{answer_of}
 use mathlib.Core.Path.{refl}
 use Rattle.inbound.proofs.Answering.{made_answer}
 use Rattle.inbound.specs.Circuits.{tick_answer}
-use borrow.Author.Rules.{rules}
 use Rattle.inbound.proofs.InboundCircuit.on_tick.Goals as goal
 
 pub returns : goal.returns

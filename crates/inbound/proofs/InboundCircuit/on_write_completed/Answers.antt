@@ -6,7 +6,6 @@ use Rattle.circuit.specs.Calls.{wrote_of}
 use mathlib.Core.Path.{refl}
 use Rattle.inbound.proofs.Answering.{made_plainly}
 use Rattle.inbound.specs.Circuits.{wrote_answer}
-use borrow.Author.Rules.{rules}
 use Rattle.inbound.proofs.InboundCircuit.on_write_completed.Goals as goal
 
 pub returns : goal.returns
