@@ -1,5 +1,5 @@
 -- What the program makes of a line that it read, and of line after line (RULES.md, sections 12.1 and 12.7).
-use Rattle.std.specs.Prelude.{ℕ, ◌+◌, ◌*◌, Bool, false, ◌≡◌, List, [], ◌∷◌, ◌++◌, take}
+use Rattle.std.specs.Prelude.{ℕ, ◌*◌, Bool, false, ◌≡◌, List, [], ◌∷◌, ◌++◌, take}
 use Rattle.prelude.specs.Choice.{pick}
 use Rattle.text.specs.Printed.{printed, behind}
 use Rattle.line_program.specs.declared.Reading.{Reading}

@@ -3,8 +3,6 @@ use native.Mathlib.Omega.{arith}
 use Rattle.candidates.specs.declared.Chosen.{Chosen}
 use Rattle.lines.specs.Lines.{longest}
 use Rattle.journal_text.proofs.Inputs.{zeros_long}
-use borrow.Author.Tests.{le-leb, lt-leb, lt-ltb, le-ltb, eq-eqb, ne_eqb}
-use borrow.Author.Rules.{rules}
 use Rattle.journal.proofs.main.Goals as goal
 
 pub replay-e-requires : goal.replay-e-requires

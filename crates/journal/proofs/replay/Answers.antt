@@ -7,7 +7,6 @@ use Rattle.journal.proofs.Stepping.{opened_within}
 use Rattle.journal_text.proofs.Inputs.{blank_lent}
 use Rattle.journal.proofs.Replaying.{unread_first, refused_first, good_first}
 use mathlib.Core.Path.{sym, ap, ◌∙◌}
-use borrow.Author.Tests.{le-leb, lt-leb, lt-ltb, le-ltb, eq-eqb, ne_eqb}
 use borrow.Author.Rules.{rules}
 use Rattle.journal.proofs.replay.Goals as goal
 

@@ -1,18 +1,9 @@
-use mathlib.Core.Path.{◌≡◌, refl, sym, ◌∙◌}
-use mathlib.Core.List.{List}
-use Prim.Native.Nat.{ℕ, ◌+◌, ◌*◌, ◌≤◌}
+use mathlib.Core.Path.{refl, sym, ◌∙◌}
 use native.Mathlib.Omega.{arith}
-use lib.ListN.{length}
 use Rattle.prelude.specs.Numbers.{max_u64}
-use Rattle.journal_prints.specs.Room.{room}
-use Rattle.ledger.specs.Ledger.{tables_of}
-use Rattle.lines.specs.Lines.{longest}
-use Rattle.journal_calls.specs.Calls.{whole}
-use Rattle.journal.specs.Steps.{State}
 use Rattle.line_program.proofs.GoingOn.{apart}
 use Rattle.journal.proofs.Stepping.{step_room}
-use Rattle.journal.proofs.Running.{Going, begin, going, finished}
-use borrow.Author.Rules.{rules}
+use Rattle.journal.proofs.Running.{begin, going, finished}
 use Rattle.journal.proofs.run.Goals as goal
 use Rattle.journal.proofs.run.Goals.{then-loop-turns-test+then-s+else-s-2, then-loop-turns-test+else-s, else-loop-turns-test}
 
@@ -41,8 +32,11 @@ pub shape_of-out : goal.shape_of-out
 shape_of-out c = c.loop-turns.invariant.3 ∙ c.take_step-s.auto.out
 
 pub returns : goal.returns
-returns c = record { bound = omega (arith, c.loop-turns.invariant.3, c.loop-turns.invariant.5, c.take_step-s.auto.out); ran = finished _ _ (c.loop-turns.invariant.6 _ _ (going (begin _ _ _ _ max_u64 (omega arith)) c.requires.0 c.requires.1 _ (c.take_step-s.ensures.journal, (c.take_step-s.ensures.reply, (c.take_step-s.ensures.out, (c.take_step-s.ensures.waiting, (c.take_step-s.ensures.whole, (c.take_step-s.ensures.written, c.take_step-s.ensures.read)))))) _ (omega arith))) (λ e v. elim c.loop-turns-test.branch [
-      then-loop-turns-test+then-s+else-s-2 w ↦ apart (sym v ∙ w.if-s-2.false)
+returns c = record {
+  bound = omega (arith, c.loop-turns.invariant.3, c.loop-turns.invariant.5, c.take_step-s.auto.out);
+  ran = finished _ _ (c.loop-turns.invariant.6 _ _ (going (begin _ _ _ _ max_u64 (omega arith)) c.requires.0 c.requires.1 _ (c.take_step-s.ensures.journal, (c.take_step-s.ensures.reply, (c.take_step-s.ensures.out, (c.take_step-s.ensures.waiting, (c.take_step-s.ensures.whole, (c.take_step-s.ensures.written, c.take_step-s.ensures.read)))))) _ (omega arith))) (λ e v. elim c.loop-turns-test.branch [
+    | then-loop-turns-test+then-s+else-s-2 w ↦ apart (sym v ∙ w.if-s-2.false)
     | then-loop-turns-test+else-s w ↦ apart (sym e ∙ w.if-s.false)
     | else-loop-turns-test w ↦ omega arith
-    ]) }
+  ]);
+}

@@ -1,19 +1,13 @@
-use mathlib.Core.Path.{◌≡◌, refl, sym, ◌∙◌}
+use mathlib.Core.Path.{◌≡◌}
 use mathlib.Core.List.{List}
-use mathlib.Core.Logic.{⊎_elim}
 use Prim.Native.Nat.{ℕ, ◌+◌, ◌*◌, ◌≤◌}
-use native.Mathlib.Omega.{arith}
 use lib.ListN.{length}
-use Rattle.prelude.specs.Numbers.{max_u64}
 use Rattle.journal_prints.specs.Room.{room}
 use Rattle.ledger.specs.Ledger.{tables_of}
 use Rattle.lines.specs.Lines.{longest}
 use Rattle.journal_calls.specs.Calls.{whole}
 use Rattle.journal.specs.Steps.{State}
-use Rattle.line_program.proofs.GoingOn.{apart}
-use Rattle.journal.proofs.Stepping.{step_room}
-use Rattle.journal.proofs.Running.{Going, begin, going, finished}
-use borrow.Author.Rules.{rules}
+use Rattle.journal.proofs.Running.{Going}
 use Rattle.journal.proofs.run.Given as goal
 
 abbrev pub invariant-loop-turns : goal.invariant-loop-turns

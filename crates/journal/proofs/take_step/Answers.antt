@@ -4,7 +4,6 @@ use mathlib.Core.Path.{sym, ◌∙◌}
 use Rattle.ledger.specs.Ledger.{tables_of}
 use Rattle.journal_calls.specs.Calls.{whole}
 use Rattle.journal.proofs.Stepping.{step_made, step_left}
-use borrow.Author.Rules.{rules}
 use Rattle.journal.proofs.take_step.Goals as goal
 
 pub slice_bounds-answer_line-end-then-is_line : goal.slice_bounds-answer_line-end-then-is_line
