@@ -1,7 +1,6 @@
 use Rattle.ledger.specs.Ledger.{tables_of}
 use Rattle.journal_calls.specs.Calls.{whole}
 use Rattle.circuit_questions.proofs.Answering.{line_answered}
-use borrow.Author.Rules.{rules}
 use Rattle.circuit_questions.proofs.answer_line.Goals as goal
 
 pub returns : goal.returns

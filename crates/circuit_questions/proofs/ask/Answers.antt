@@ -1,5 +1,4 @@
 use Rattle.circuit_questions.specs.Answers.{answers_of}
-use borrow.Author.Rules.{rules}
 use Rattle.circuit_questions.proofs.ask.Goals as goal
 
 pub returns-then-begun : goal.returns-then-begun

@@ -1,4 +1,3 @@
-use borrow.Author.Rules.{rules}
 use Rattle.circuit_questions.proofs.deadline_words.Goals as goal
 
 pub returns-in-At : goal.returns-in-At

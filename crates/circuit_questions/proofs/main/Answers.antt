@@ -3,7 +3,6 @@ use native.Mathlib.Omega.{arith}
 use Rattle.candidates.specs.declared.Chosen.{Chosen}
 use Rattle.lines.specs.Lines.{longest}
 use Rattle.journal_text.proofs.Inputs.{zeros_long}
-use borrow.Author.Rules.{rules}
 use Rattle.circuit_questions.proofs.main.Goals as goal
 
 pub replay-requires : goal.replay-requires

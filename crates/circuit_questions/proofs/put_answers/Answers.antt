@@ -3,7 +3,6 @@ use Rattle.text.proofs.Printing.{laid, parts, then, length_kept}
 use Rattle.forms.proofs.Print.{same}
 use Rattle.circuit_questions.specs.Answers.{answers_text}
 use Rattle.circuit_questions.proofs.Answering.{answers_text_lem}
-use borrow.Author.Rules.{rules}
 use Rattle.circuit_questions.proofs.put_answers.Goals as goal
 
 pub shape_of-out : goal.shape_of-out

@@ -6,7 +6,6 @@ use Rattle.journal_calls.specs.declared.State.{State as Numbers}
 use Rattle.journal_calls.specs.Calls.{whole}
 use Rattle.journal_text.proofs.Inputs.{blank_lent}
 use Rattle.circuit_questions.proofs.Replaying.{unread_first, refused_first, good_first}
-use borrow.Author.Rules.{rules}
 use Rattle.circuit_questions.proofs.replay.Goals as goal
 
 pub returns-then-s : goal.returns-then-s

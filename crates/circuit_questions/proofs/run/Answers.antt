@@ -1,16 +1,8 @@
-use mathlib.Core.Path.{◌≡◌, refl, sym, ◌∙◌}
-use mathlib.Core.List.{List}
-use Prim.Native.Nat.{ℕ, ◌≤◌}
+use mathlib.Core.Path.{refl, sym, ◌∙◌}
 use native.Mathlib.Omega.{arith}
-use lib.ListN.{length}
 use Rattle.prelude.specs.Numbers.{max_u64}
-use Rattle.ledger.specs.Ledger.{tables_of}
-use Rattle.lines.specs.Lines.{longest}
 use Rattle.line_program.proofs.GoingOn.{apart}
-use Rattle.journal_calls.specs.Calls.{whole}
-use Rattle.circuit_questions.specs.Steps.{State, state}
-use Rattle.circuit_questions.proofs.Running.{Going, begin, going, finished}
-use borrow.Author.Rules.{rules}
+use Rattle.circuit_questions.proofs.Running.{begin, going, finished}
 use Rattle.circuit_questions.proofs.run.Goals as goal
 use Rattle.circuit_questions.proofs.run.Goals.{then-loop-turns-test+then-s+else-s-2, then-loop-turns-test+else-s, else-loop-turns-test}
 
@@ -50,7 +42,7 @@ returns c =
     finished _ _
     (c.loop-turns.invariant.5 _ _ (going (begin _ _ max_u64 (omega arith)) c.requires _ (c.take_step-s.ensures.made, (c.take_step-s.ensures.written, c.take_step-s.ensures.read)) _ (omega arith)))
     (λ e v. elim c.loop-turns-test.branch [
-      then-loop-turns-test+then-s+else-s-2 w ↦ apart (sym v ∙ w.if-s-2.false)
-    | then-loop-turns-test+else-s w ↦ apart (sym e ∙ w.if-s.false)
-    | else-loop-turns-test w ↦ omega arith
+      | then-loop-turns-test+then-s+else-s-2 w ↦ apart (sym v ∙ w.if-s-2.false)
+      | then-loop-turns-test+else-s w ↦ apart (sym e ∙ w.if-s.false)
+      | else-loop-turns-test w ↦ omega arith
     ])

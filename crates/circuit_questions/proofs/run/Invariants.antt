@@ -1,17 +1,12 @@
-use mathlib.Core.Path.{◌≡◌, refl, sym, ◌∙◌}
+use mathlib.Core.Path.{◌≡◌}
 use mathlib.Core.List.{List}
-use mathlib.Core.Logic.{⊎_elim}
 use Prim.Native.Nat.{ℕ, ◌≤◌}
-use native.Mathlib.Omega.{arith}
 use lib.ListN.{length}
-use Rattle.prelude.specs.Numbers.{max_u64}
 use Rattle.ledger.specs.Ledger.{tables_of}
 use Rattle.lines.specs.Lines.{longest}
-use Rattle.line_program.proofs.GoingOn.{apart}
 use Rattle.journal_calls.specs.Calls.{whole}
 use Rattle.circuit_questions.specs.Steps.{State, state}
-use Rattle.circuit_questions.proofs.Running.{Going, begin, going, finished}
-use borrow.Author.Rules.{rules}
+use Rattle.circuit_questions.proofs.Running.{Going}
 use Rattle.circuit_questions.proofs.run.Given as goal
 
 abbrev pub invariant-loop-turns : goal.invariant-loop-turns

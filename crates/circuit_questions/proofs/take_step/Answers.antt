@@ -5,7 +5,6 @@ use Rattle.ledger.specs.Ledger.{tables_of}
 use Rattle.journal_calls.specs.Calls.{whole}
 use Rattle.circuit_questions.specs.Steps.{state}
 use Rattle.circuit_questions.proofs.Stepping.{step_made, step_left}
-use borrow.Author.Rules.{rules}
 use Rattle.circuit_questions.proofs.take_step.Goals as goal
 
 pub slice_bounds-answer_line-end-then-is_line : goal.slice_bounds-answer_line-end-then-is_line
