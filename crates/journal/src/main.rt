@@ -221,18 +221,9 @@ fn replay(
     }
 }
 
-// Whether the program was given an argument behind its own name.
-fn has_argument(rt: HostRuntime) -> bool {
-    match rt.arg(1, &mut [0u8; 1]) {
-        Ok(_) => true,
-        Err(FillError::TooLong) => true,
-        Err(FillError::NotPresent) => false,
-    }
-}
-
 // With an argument, whatever it is, the program only says by which version of the rule it replays.
 fn main(rt: HostRuntime) {
-    if has_argument(rt) {
+    if !matches!(rt.arg(1, &mut [0u8; 1]), Err(FillError::NotPresent)) {
         let _ = rt.stdout().write_all(b"rule version 2\n");
         return;
     }
