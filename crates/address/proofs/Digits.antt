@@ -3,7 +3,7 @@
 use mathlib.Core.Path.{◌≡◌, refl, sym, ◌∙◌}
 use mathlib.Core.List.{List, [], ◌∷◌}
 use mathlib.Core.Bool.{Bool, true, false}
-use borrow.Author.Tests.{eqb-true, leb-true, eq-eqb, ne_eqb, le-leb, lt-leb}
+use borrow.Author.Tests.{eqb-true, leb-true}
 use Prim.Native.Nat.{ℕ, ◌+◌, ◌-◌, ◌*◌, ◌^◌, ◌<◌, ◌≤◌}
 use native.Mathlib.Numerals.{add-one}
 use native.Mathlib.Omega.{arith}
@@ -13,10 +13,10 @@ use lib.Pow.{pow-add, pow_mono}
 use lib.Dec.{eqb, leb}
 use lib.ListN.{length, get_or, take, drop, length-take, length-drop, drop_of_length-le, get_or-eq_default}
 use lib.Seq.{drop-cons, take_all}
+use Rattle.std.specs.Prelude.{None, Some}
 use Rattle.prelude.specs.Choice.{both}
 use Rattle.address.specs.Multiaddr.{big_endian, number, name_head, longest_name, is_name, ends_well, has_form, parsed}
 use Rattle.address.specs.declared.Ip.TheVariants.{V4, V6}
-use Rattle.address.specs.declared.Parsed.TheVariants.{Address, Other}
 
 pub digit_step : (v : ℕ) (s : List ℕ) (i : ℕ) → i < length s → big_endian v (drop i s) ≡ big_endian (v * 256 + get_or s i 0) (drop (i + 1) s)
 unfolding big_endian
@@ -35,11 +35,6 @@ pub digit_fits : (v b i : ℕ) → v < 2 ^ (8 * i) → b < 256 → i < 8 → v *
 digit_fits v b i h g k =
     let e : 8 * (i + 1) ≤ 64 = omega arith in
     lt_of_lt_of_le (digit_room v b i h g) (pow_mono e)
-
--- the last of seven tests decides where the others passed
-pub last_of_seven : (a b c d e f : Bool) {g h : Bool} → a ≡ true → b ≡ true → c ≡ true → d ≡ true → e ≡ true → f ≡ true → g ≡ h
-    → g ≡ both a (both b (both c (both d (both e (both f h)))))
-last_of_seven a b c d e f p q r s t u v = rw (p, q, r, s, t, u) v
 
 -- what two passed tests say of each
 pub both_first : (a b : Bool) → both a b ≡ true → a ≡ true
@@ -83,16 +78,16 @@ address_short family n s e =
 pub part_long : (a e : ℕ) (s : List ℕ) → a ≤ e → e ≤ length s → length (take (e - a) (drop a s)) ≡ e - a
 part_long a e s h g = simp (length-take, length-drop) (omega arith)
 
-pub parsed4 : (s : List ℕ) {r : Bool} {x y : ℕ} → r ≡ has_form 0x04 4 s → r ≡ true → x ≡ number 1 5 s → y ≡ number 7 9 s → Address (V4 x) y ≡ parsed s
+pub parsed4 : (s : List ℕ) {r : Bool} {x y : ℕ} → r ≡ has_form 0x04 4 s → r ≡ true → x ≡ number 1 5 s → y ≡ number 7 9 s → Some (V4 x, y) ≡ parsed s
 unfolding parsed
 parsed4 s e t p q = rw (sym e ∙ t, p, q)
 
 pub parsed6 : (s : List ℕ) {q r : Bool} {x y z : ℕ} → q ≡ has_form 0x04 4 s → q ≡ false → r ≡ has_form 0x29 16 s → r ≡ true
-    → x ≡ number 1 9 s → y ≡ number 9 17 s → z ≡ number 19 21 s → Address (V6 x y) z ≡ parsed s
+    → x ≡ number 1 9 s → y ≡ number 9 17 s → z ≡ number 19 21 s → Some (V6 x y, z) ≡ parsed s
 unfolding parsed
 parsed6 s d f e t p q r = rw (sym d ∙ f, sym e ∙ t, p, q, r)
 
-pub parsed_other : (s : List ℕ) {q r : Bool} → q ≡ has_form 0x04 4 s → q ≡ false → r ≡ has_form 0x29 16 s → r ≡ false → Other ≡ parsed s
+pub parsed_other : (s : List ℕ) {q r : Bool} → q ≡ has_form 0x04 4 s → q ≡ false → r ≡ has_form 0x29 16 s → r ≡ false → None ≡ parsed s
 unfolding parsed
 parsed_other s d f e t = rw (sym d ∙ f, sym e ∙ t)
 
@@ -109,28 +104,6 @@ unfolding is_name
 cut_name s h =
     let z : get_or s 2 0 ≡ 0 = get_or-eq_default s 0 (omega arith) in
     rw z (no_length (eqb (get_or s 0 0) 0xa5) (eqb (get_or s 1 0) 0x03) (leb 0 longest_name) (eqb (length s) (name_head + 0)))
-
-module _ (s : List ℕ) where
-  pub other_code : (get_or s 0 0 ≡ 0xa5 → ⊥) → false ≡ is_name s
-  unfolding is_name
-  other_code d = rw (ne_eqb _ _ d)
-
-  pub other_code_2 : get_or s 0 0 ≡ 0xa5 → (get_or s 1 0 ≡ 0x03 → ⊥) → false ≡ is_name s
-  unfolding is_name
-  other_code_2 a d = rw (eq-eqb _ _ a, ne_eqb _ _ d)
-
-  module _ {n : ℕ} (a : get_or s 0 0 ≡ 0xa5) (b : get_or s 1 0 ≡ 0x03) (e : n ≡ get_or s 2 0) where
-    pub no_bytes : n ≡ 0 → false ≡ is_name s
-    unfolding is_name
-    no_bytes z = rw (eq-eqb _ _ a, eq-eqb _ _ b, ← e, z)
-
-    pub too_many : longest_name < n → false ≡ is_name s
-    unfolding is_name
-    too_many l = let m : leb 1 n ≡ true = le-leb 1 n (omega arith) in rw (eq-eqb _ _ a, eq-eqb _ _ b, ← e, m, lt-leb _ _ l)
-
-    pub by_length : (n ≡ 0 → ⊥) → n ≤ longest_name → eqb (length s) (name_head + n) ≡ is_name s
-    unfolding is_name
-    by_length z l = let m : leb 1 n ≡ true = le-leb 1 n (omega arith) in rw (eq-eqb _ _ a, eq-eqb _ _ b, ← e, m, le-leb _ _ l)
 
 -- nothing stands behind quic-v1, or what stands there is judged as a name
 pub nothing_behind : (s : List ℕ) → length s ≡ 0 → true ≡ ends_well s

@@ -20,9 +20,9 @@ use Rattle.address.specs.declared.Prefix.{Prefix}
 use Rattle.address.specs.declared.Prefix.TheVariants.{Net4, Net6}
 use Rattle.address.specs.declared.Verdict.{Verdict}
 use Rattle.address.specs.declared.Range.{Range}
-use Rattle.address.proofs.LeadingBits.{same_test}
 use Rattle.address.proofs.Longest.{first_verdict}
 use Rattle.address.proofs.CutPoints.{Test, always, from, branch, run, bounds, alike, agree}
+use Rattle.address.proofs.LeadingBits.{same_test}
 
 -- lo up to hi, hi left out
 abbrev range : ℕ → ℕ → Test

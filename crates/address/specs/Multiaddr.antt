@@ -1,9 +1,8 @@
 -- An address as the bytes of a multiaddr (RULES.md, section 6).
-use Rattle.std.specs.Prelude.{ℕ, ◌+◌, ◌*◌, ◌-◌, Bool, true, List, [], ◌∷◌, eqb, leb, length, get_or, take, drop}
+use Rattle.std.specs.Prelude.{ℕ, ◌+◌, ◌*◌, ◌-◌, Bool, true, List, [], ◌∷◌, eqb, leb, length, get_or, take, drop, None, Option, Some}
 use Rattle.prelude.specs.Choice.{pick, both}
 use Rattle.address.specs.declared.Ip.TheVariants.{V4, V6}
-use Rattle.address.specs.declared.Parsed.{Parsed}
-use Rattle.address.specs.declared.Parsed.TheVariants.{Address, Other}
+use Rattle.address.specs.declared.Ip.{Ip}
 
 -- the number whose digits to the base 256 follow those of n, the first byte first
 unfoldable pub big_endian : ℕ → List ℕ → ℕ
@@ -54,7 +53,7 @@ has_form family n s =
     (both (eqb (get_or s (n + 5) 0) 0xcd) (both (eqb (get_or s (n + 6) 0) 0x03) (ends_well (drop (n + beside) s)))))))
 
 -- ip4 is 04, ip6 is 29
-unfoldable pub parsed : List ℕ → Parsed
+unfoldable pub parsed : List ℕ → Option (Ip × ℕ)
 parsed s =
-    pick (has_form 0x04 4 s) (Address (V4 (number 1 5 s)) (number 7 9 s))
-    (pick (has_form 0x29 16 s) (Address (V6 (number 1 9 s) (number 9 17 s)) (number 19 21 s)) Other)
+    pick (has_form 0x04 4 s) (Some (V4 (number 1 5 s), number 7 9 s))
+    (pick (has_form 0x29 16 s) (Some (V6 (number 1 9 s) (number 9 17 s), number 19 21 s)) None)

@@ -9,7 +9,7 @@ ghost use Rattle.address.specs.Words.{InBits, judged_as, passes, may_be_target};
 ghost use Rattle.address.specs.Multiaddr.{big_endian, number, is_name, ends_well, has_form, parsed};
 
 // An IP address: 32 bits, or two halves of 64 bits.
-#[derive(Clone, Copy)]
+#[derive(Clone, Copy, PartialEq, Eq)]
 pub enum Ip {
     V4(u32),
     V6(u64, u64),
@@ -88,6 +88,7 @@ const RANGES: [Range; ROWS] = [
 ];
 
 // Whether the leading `len` bits of two numbers agree. A shift by the whole width is an error, so no bit and all bits stand apart.
+// Two widths, not one: masks of 32 and of 64 bits are the form that is asked for.
 fn same_leading_bits_32(a: u32, p: u32, len: u32) -> bool
     ensures { result ≡ same_leading_bits 32 len a p }
 {
@@ -129,31 +130,23 @@ fn same_leading_bits_128(ah: u64, al: u64, ph: u64, pl: u64, len: u32) -> bool
 fn lies_in(ip: Ip, prefix: Prefix) -> bool
     ensures { result ≡ lies_in ip prefix }
 {
-    match ip {
-        Ip::V4(a) => match prefix {
-            Prefix::Net4(p, len) => same_leading_bits_32(a, p, len),
-            Prefix::Net6(_, _, _) => false,
-        },
-        Ip::V6(ah, al) => match prefix {
-            Prefix::Net4(_, _) => false,
-            Prefix::Net6(ph, pl, len) => same_leading_bits_128(ah, al, ph, pl, len),
-        },
+    match (ip, prefix) {
+        (Ip::V4(a), Prefix::Net4(p, len)) => { same_leading_bits_32(a, p, len) }
+        (Ip::V6(ah, al), Prefix::Net6(ph, pl, len)) => {
+            same_leading_bits_128(ah, al, ph, pl, len)
+        }
+        _ => false,
     }
 }
 
-// The verdict of the first row in which the address lies. The rows come by value: `RANGES[i]` would rebuild the table at each step.
-fn search(rows: [Range; ROWS], ip: Ip) -> Verdict
-    ensures { result ≡ (first_row ip rows).1 }
+// The verdict of the first row in which the address lies.
+fn search(rows: &[Range], ip: Ip) -> Verdict
+    ensures { result ≡ (first_row ip rows.now).1 }
 {
-    let mut i: usize = 0;
-    while i < ROWS {
-        let row = rows[i];
-        let prefix = row.0;
-        if lies_in(ip, prefix) {
-            let verdict = row.1;
-            return verdict;
+    for row in rows {
+        if lies_in(ip, row.0) {
+            return row.1;
         }
-        i += 1;
     }
     Verdict::Never
 }
@@ -161,7 +154,7 @@ fn search(rows: [Range; ROWS], ip: Ip) -> Verdict
 pub fn verdict_of(ip: Ip) -> Verdict
     ensures { result ≡ verdict_of ip }
 {
-    search(RANGES, ip)
+    search(&RANGES, ip)
 }
 
 fn permits(verdict: Verdict, private: bool) -> bool
@@ -180,19 +173,8 @@ fn judged_as(ip: Ip, private: bool) -> Ip
     ensures bits { InBits result }
 {
     match ip {
-        Ip::V4(a) => Ip::V4(a),
-        Ip::V6(h, l) => {
-            if private {
-                if h == 0 {
-                    if (l >> 32) == 0xffff {
-                        return Ip::V4((l % 0x1_0000_0000) as u32);
-                    }
-                    return Ip::V6(h, l);
-                }
-                return Ip::V6(h, l);
-            }
-            Ip::V6(h, l)
-        }
+        Ip::V6(0, l) if private && l >> 32 == 0xffff => Ip::V4((l % 0x1_0000_0000) as u32),
+        other => other,
     }
 }
 
@@ -203,13 +185,6 @@ pub fn eligible(ip: Ip, private: bool) -> bool
     permits(verdict_of(judged_as(ip, private)), private)
 }
 
-// What the bytes of a multiaddr stand for.
-#[derive(Clone, Copy)]
-pub enum Parsed {
-    Address { ip: Ip, port: u16 },
-    Other,
-}
-
 // The number that up to eight bytes stand for, the first byte first.
 fn big_endian(s: &[u8]) -> u64
     requires { length s.now ≤ 8 }
@@ -217,10 +192,8 @@ fn big_endian(s: &[u8]) -> u64
     ensures small { result < 2 ^ (8 * length s.now) }
 {
     let mut v: u64 = 0;
-    let mut i: usize = 0;
-    while i < s.len() {
-        v = v * 256 + s[i] as u64;
-        i += 1;
+    for b in s {
+        v = v * 256 + u64::from(*b);
     }
     v
 }
@@ -247,43 +220,24 @@ pub const LONGEST_V4: usize = 4 + BESIDE + NAME_HEAD + LONGEST_NAME;
 
 pub const LONGEST_V6: usize = 16 + BESIDE + NAME_HEAD + LONGEST_NAME;
 
-fn wide(b: u8) -> usize
-    ensures { result ≡ b }
-{
-    b as usize
-}
-
 // Whether the bytes are p2p, a length byte of 1 to 127, as many bytes and nothing more.
 fn is_name(s: &[u8]) -> bool
     ensures { result ≡ is_name s.now }
 {
-    if s.len() < NAME_HEAD {
-        return false;
+    match s {
+        [0xa5, 0x03, n, name @ ..] => {
+            let n = usize::from(*n);
+            1 <= n && n <= LONGEST_NAME && name.len() == n
+        }
+        _ => false,
     }
-    if s[0] != 0xa5 {
-        return false;
-    }
-    if s[1] != 0x03 {
-        return false;
-    }
-    let n = wide(s[2]);
-    if n == 0 {
-        return false;
-    }
-    if LONGEST_NAME < n {
-        return false;
-    }
-    s.len() == NAME_HEAD + n
 }
 
 // Whether the bytes behind quic-v1 are none, or a peer name.
 fn ends_well(s: &[u8]) -> bool
     ensures { result ≡ ends_well s.now }
 {
-    if s.len() == 0 {
-        return true;
-    }
-    is_name(s)
+    s.is_empty() || is_name(s)
 }
 
 // Whether the bytes are a family's code, `n` bytes of IP, udp with a port, quic-v1, and a peer name or nothing more.
@@ -292,48 +246,27 @@ fn has_form(s: &[u8], family: u8, n: usize) -> bool
     ensures { result ≡ has_form family n s.now }
 {
     let end = n + BESIDE;
-    if s.len() < end {
-        return false;
-    }
-    if s[0] != family {
-        return false;
-    }
-    if s[n + 1] != 0x91 {
-        return false;
-    }
-    if s[n + 2] != 0x02 {
-        return false;
-    }
-    if s[n + 5] != 0xcd {
-        return false;
-    }
-    if s[n + 6] != 0x03 {
-        return false;
-    }
-    ends_well(&s[end..])
+    end <= s.len()
+        && s[0] == family
+        && matches!(&s[n + 1..end], [0x91, 0x02, _, _, 0xcd, 0x03])
+        && ends_well(&s[end..])
 }
 
-pub fn parse(s: &[u8]) -> Parsed
+pub fn parse(s: &[u8]) -> Option<(Ip, u16)>
     ensures { result ≡ parsed s.now }
 {
     if has_form(s, 0x04, 4) {
         let a = number_at(s, 1, 5);
         let port = number_at(s, 7, 9);
-        return Parsed::Address {
-            ip: Ip::V4(a as u32),
-            port: port as u16,
-        };
+        return Some((Ip::V4(a as u32), port as u16));
     }
     if has_form(s, 0x29, 16) {
         let h = number_at(s, 1, 9);
         let l = number_at(s, 9, 17);
         let port = number_at(s, 19, 21);
-        return Parsed::Address {
-            ip: Ip::V6(h, l),
-            port: port as u16,
-        };
+        return Some((Ip::V6(h, l), port as u16));
     }
-    Parsed::Other
+    None
 }
 
 // The table says of every address what the words say.

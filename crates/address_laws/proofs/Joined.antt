@@ -8,10 +8,10 @@ use borrow.Author.Tests.{eq-eqb, ne_eqb, le-leb}
 use lib.Dec.{eqb, leb}
 use lib.ListN.{length, get_or, take, drop, length-append}
 use lib.Seq.{take-append_seam, drop-append-add, drop_at, get_or-append-add}
+use Rattle.std.specs.Prelude.{Some}
 use Rattle.prelude.specs.Choice.{both}
 use Rattle.address.specs.Multiaddr.{big_endian, is_name, ends_well, has_form, parsed}
 use Rattle.address.specs.declared.Ip.{Ip}
-use Rattle.address.specs.declared.Parsed.TheVariants.{Address}
 use Rattle.address_laws.specs.Bytes.{Ending, bare, named, joined, Stands, v4, v6}
 
 ends : (end : List ℕ) → Ending end → ends_well end ≡ true
@@ -77,7 +77,7 @@ other_family family n s d = rw (ne_eqb (get_or s 0 0) family d) (go (leb (n + 7)
     go true = refl
     go false = refl
 
-pub read_as : (a : List ℕ) (ip : Ip) (port : ℕ) → Stands a ip port → parsed a ≡ Address ip port
+pub read_as : (a : List ℕ) (ip : Ip) (port : ℕ) → Stands a ip port → parsed a ≡ Some (ip, port)
 unfolding parsed
 read_as a ip port (v4 bytes at end li lp q) =
     rw (formed 0x04 4 bytes at end li lp q, ip_number 0x04 4 bytes at end li lp, port_number 0x04 4 bytes at end li lp)

@@ -9,13 +9,14 @@ use borrow.Author.Tests.{eqb-true, leb-true}
 use lib.Dec.{eqb, leb}
 use lib.ListN.{length, get_or, take, drop, length-take, length-drop, take-append-drop}
 use lib.Seq.{drop-cons, drop-drop, take-add}
+use Rattle.std.specs.Prelude.{None, Some, Option}
 use Rattle.prelude.specs.Choice.{pick, both}
 use Rattle.address.specs.Multiaddr.{number, is_name, ends_well, has_form, parsed}
 use Rattle.address.proofs.Digits.{both_first, both_second}
 use Rattle.address.specs.declared.Ip.{Ip}
 use Rattle.address.specs.declared.Ip.TheVariants.{V4, V6}
-use Rattle.address.specs.declared.Parsed.TheVariants.{Address, Other}
 use Rattle.address_laws.specs.Bytes.{Ending, bare, named, joined, Stands, v4, v6}
+use Rattle.std.proofs.lemmas.Option.{some_pair_parts}
 
 -- ---- the ending
 
@@ -109,18 +110,16 @@ stands6 a w =
     (sym (w.is ∙ ap (λ (ip : List ℕ). joined 0x29 ip (take 2 (drop 19 a)) (drop 23 a)) h))
     (v6 (take 8 (drop 1 a)) (take 8 (drop 9 a)) (take 2 (drop 19 a)) (drop 23 a) (simp (length-take, length-drop) (omega arith)) (simp (length-take, length-drop) (omega arith)) w.port w.end)
 
-pub only_as : (a : List ℕ) (ip : Ip) (port : ℕ) → parsed a ≡ Address ip port → Stands a ip port
+pub only_as : (a : List ℕ) (ip : Ip) (port : ℕ) → parsed a ≡ Some (ip, port) → Stands a ip port
 unfolding parsed
 only_as a ip port e = by_test (has_form 0x04 4 a) (has_form 0x29 16 a) refl refl e
   where
     by_test : (p q : Bool) → has_form 0x04 4 a ≡ p → has_form 0x29 16 a ≡ q
-        → pick p (Address (V4 (number 1 5 a)) (number 7 9 a)) (pick q (Address (V6 (number 1 9 a) (number 9 17 a)) (number 19 21 a)) Other) ≡ Address ip port → Stands a ip port
+        → pick {A = Option (Ip × ℕ)} p (Some (V4 (number 1 5 a), number 7 9 a)) (pick q (Some (V6 (number 1 9 a) (number 9 17 a), number 19 21 a)) None) ≡ Some (ip, port) → Stands a ip port
     by_test true q f g t =
-        let x : V4 (number 1 5 a) ≡ ip = cc in
-        let y : number 7 9 a ≡ port = cc in
-        rw (← x, ← y) (stands4 a (parts 0x04 4 a f))
+        let e = some_pair_parts _ _ _ _ t in
+        rw (← e.0, ← e.1) (stands4 a (parts 0x04 4 a f))
     by_test false true f g t =
-        let x : V6 (number 1 9 a) (number 9 17 a) ≡ ip = cc in
-        let y : number 19 21 a ≡ port = cc in
-        rw (← x, ← y) (stands6 a (parts 0x29 16 a g))
+        let e = some_pair_parts _ _ _ _ t in
+        rw (← e.0, ← e.1) (stands6 a (parts 0x29 16 a g))
     by_test false false f g t = let z : ◌≡◌ {A = ℕ} 0 1 = cc in absurd (omega arith)

@@ -8,10 +8,10 @@ use Prim.Native.Nat.{ℕ, ◌-◌, ◌≤◌, ◌<◌}
 use borrow.Author.Tests.{ltb-true, le-leb, lt-leb, lt-ltb, le-ltb}
 use native.Mathlib.Omega.{arith}
 use lib.Dec.{ltb, leb}
+use Rattle.std.specs.Prelude.{Some}
 use Rattle.prelude.specs.Choice.{pick, both}
 use Rattle.budget.specs.Budget.{max_rounds, may_begin, one_more, begun, upgrade_due, due_at, values_of}
 use Rattle.budget.specs.declared.UpgradeBudget.{UpgradeBudget}
-use Rattle.budget.specs.declared.Exchange.TheVariants.{Running}
 use Rattle.budget.specs.declared.UpgradeStop.TheVariants.{ExchangeTimeout, UpgradeTimeout}
 
 pub may_rounds : (b : UpgradeBudget) (at : ℕ) → may_begin b at ≡ true → b.rounds < max_rounds
@@ -23,19 +23,19 @@ may_rounds b at h = go (ltb b.rounds max_rounds) refl h
     go false e h = let z : ◌≡◌ {A = ℕ} 0 1 = cc in absurd (omega arith)
 
 -- an exchange that ended before the deadline
-pub exchange_due : (b : UpgradeBudget) (at started end ms : ℕ) → b.running ≡ Running started end → end ≤ at
-    → ltb end b.deadline ≡ true → ms ≡ end - started → ExchangeTimeout b.rounds ms ≡ due_at b at
+pub exchange_due : (b : UpgradeBudget) (at started end ms : ℕ) → b.running ≡ Some (started, end) → end ≤ at
+    → ltb end b.deadline ≡ true → ms ≡ end - started → Some (ExchangeTimeout b.rounds ms) ≡ due_at b at
 unfolding due_at
 exchange_due b at started end ms r h k m = simp (r, le-leb end at h, k, m)
 
 -- one that the deadline cut short
-pub cut_due : (b : UpgradeBudget) (at started end : ℕ) → b.running ≡ Running started end → end ≤ at
+pub cut_due : (b : UpgradeBudget) (at started end : ℕ) → b.running ≡ Some (started, end) → end ≤ at
     → ltb end b.deadline ≡ false → upgrade_due b at ≡ due_at b at
 unfolding due_at
 cut_due b at started end r h k = simp (r, le-leb end at h, k)
 
 -- one that still runs
-pub running_due : (b : UpgradeBudget) (at started end : ℕ) → b.running ≡ Running started end → at < end → upgrade_due b at ≡ due_at b at
+pub running_due : (b : UpgradeBudget) (at started end : ℕ) → b.running ≡ Some (started, end) → at < end → upgrade_due b at ≡ due_at b at
 unfolding due_at
 running_due b at started end r h = simp (r, lt-leb end at h)
 
@@ -49,11 +49,11 @@ round_told b at = go (may_begin b at)
     go false = le-ltb b.rounds b.rounds (omega arith)
 
 -- an exchange that lasts to the deadline or past it gives the upgrade's timeout
-pub deadline_first : (b : UpgradeBudget) (at started end : ℕ) → b.running ≡ Running started end → b.deadline ≤ end
+pub deadline_first : (b : UpgradeBudget) (at started end : ℕ) → b.running ≡ Some (started, end) → b.deadline ≤ end
     → b.deadline ≤ at → values_of (due_at b at) ≡ 2 ∷ (b.deadline - b.armed) ∷ []
 unfolding due_at upgrade_due
 deadline_first b at started end r h k = simp (r, le-ltb end b.deadline h, le-leb b.deadline at k) (go (leb end at))
   where
-    go : (t : Bool) → values_of (pick (both t false) (ExchangeTimeout b.rounds (end - started)) (UpgradeTimeout (b.deadline - b.armed))) ≡ 2 ∷ (b.deadline - b.armed) ∷ []
+    go : (t : Bool) → values_of (pick (both t false) (Some (ExchangeTimeout b.rounds (end - started))) (Some (UpgradeTimeout (b.deadline - b.armed)))) ≡ 2 ∷ (b.deadline - b.armed) ∷ []
     go true = refl
     go false = refl

@@ -1,12 +1,10 @@
 -- The limits of an upgrade (RULES.md, section 8).
-use Rattle.std.specs.Prelude.{ℕ, ◌+◌, ◌-◌, min, Bool, List, [], ◌∷◌, ltb, leb}
+use Rattle.std.specs.Prelude.{ℕ, ◌+◌, ◌-◌, min, Bool, List, [], ◌∷◌, ltb, leb, None, Option, Some}
 use Rattle.prelude.specs.Choice.{pick, both}
 use Rattle.time.specs.Time.{plus}
 use Rattle.budget.specs.declared.UpgradeBudget.{UpgradeBudget}
-use Rattle.budget.specs.declared.Exchange.{Exchange}
-use Rattle.budget.specs.declared.Exchange.TheVariants.{Idle, Running}
 use Rattle.budget.specs.declared.UpgradeStop.{UpgradeStop}
-use Rattle.budget.specs.declared.UpgradeStop.TheVariants.{None, ExchangeTimeout, UpgradeTimeout}
+use Rattle.budget.specs.declared.UpgradeStop.TheVariants.{ExchangeTimeout, UpgradeTimeout}
 
 -- the most rounds of an upgrade
 abbrev pub max_rounds : ℕ
@@ -18,7 +16,7 @@ armed at upgrade exchange punch =
     record {
       armed = at;
       deadline = plus at upgrade;
-      running = Idle;
+      running = None;
       rounds = 0;
       exchange = exchange;
       punch = punch;
@@ -29,7 +27,7 @@ unfoldable pub may_begin : UpgradeBudget → ℕ → Bool
 may_begin b at = both (ltb b.rounds max_rounds) (ltb at b.deadline)
 
 -- the same limits and rounds, with another exchange
-unfoldable pub with_exchange : UpgradeBudget → Exchange → UpgradeBudget
+unfoldable pub with_exchange : UpgradeBudget → Option (ℕ × ℕ) → UpgradeBudget
 with_exchange b e =
     record {
       armed = b.armed;
@@ -46,7 +44,7 @@ one_more b at =
     record {
       armed = b.armed;
       deadline = b.deadline;
-      running = Running at (min (plus at b.exchange) b.deadline);
+      running = Some (at, min (plus at b.exchange) b.deadline);
       rounds = b.rounds + 1;
       exchange = b.exchange;
       punch = b.punch;
@@ -57,34 +55,34 @@ unfoldable pub begun : UpgradeBudget → ℕ → UpgradeBudget
 begun b at = pick (may_begin b at) (one_more b at) b
 
 unfoldable pub ended : UpgradeBudget → UpgradeBudget
-ended b = with_exchange b Idle
+ended b = with_exchange b None
 
 -- the end of a window that starts there (RULES.md, section 9)
 unfoldable pub window_end : UpgradeBudget → ℕ → ℕ
 window_end b start = min (plus start b.punch) b.deadline
 
 -- whether the upgrade is over, and how long it was to last
-unfoldable pub upgrade_due : UpgradeBudget → ℕ → UpgradeStop
-upgrade_due b at = pick (leb b.deadline at) (UpgradeTimeout (b.deadline - b.armed)) None
+unfoldable pub upgrade_due : UpgradeBudget → ℕ → Option UpgradeStop
+upgrade_due b at = pick (leb b.deadline at) (Some (UpgradeTimeout (b.deadline - b.armed))) None
 
-abbrev pub due_in : UpgradeBudget → ℕ → Exchange → UpgradeStop
-due_in b at Idle = upgrade_due b at
-due_in b at (Running started end) =
-    pick (both (leb end at) (ltb end b.deadline)) (ExchangeTimeout b.rounds (end - started)) (upgrade_due b at)
+abbrev pub due_in : UpgradeBudget → ℕ → Option (ℕ × ℕ) → Option UpgradeStop
+due_in b at None = upgrade_due b at
+due_in b at (Some (started, end)) =
+    pick (both (leb end at) (ltb end b.deadline)) (Some (ExchangeTimeout b.rounds (end - started))) (upgrade_due b at)
 
 -- the limit that ran out by a reading: the exchange's, where it ends before the deadline; else the upgrade's
-unfoldable pub due_at : UpgradeBudget → ℕ → UpgradeStop
+unfoldable pub due_at : UpgradeBudget → ℕ → Option UpgradeStop
 due_at b at = due_in b at b.running
 
 -- each case by its number, then its values
-abbrev pub values_of : UpgradeStop → List ℕ
+abbrev pub values_of : Option UpgradeStop → List ℕ
 values_of None = 0 ∷ []
-values_of (ExchangeTimeout round budget) = 1 ∷ round ∷ budget ∷ []
-values_of (UpgradeTimeout budget) = 2 ∷ budget ∷ []
+values_of (Some (ExchangeTimeout round budget)) = 1 ∷ round ∷ budget ∷ []
+values_of (Some (UpgradeTimeout budget)) = 2 ∷ budget ∷ []
 
-abbrev pub next_in : UpgradeBudget → Exchange → ℕ
-next_in b Idle = b.deadline
-next_in b (Running started end) = min end b.deadline
+abbrev pub next_in : UpgradeBudget → Option (ℕ × ℕ) → ℕ
+next_in b None = b.deadline
+next_in b (Some (started, end)) = min end b.deadline
 
 -- the earliest limit that runs
 unfoldable pub next_deadline : UpgradeBudget → ℕ

@@ -1,11 +1,10 @@
 -- Which limit ran out by a reading, as numbers (RULES.md, section 8).
-use Rattle.std.specs.Prelude.{◌≡◌, List, [], ◌∷◌, ℕ, ◌-◌, ◌≤◌, ◌<◌}
+use Rattle.std.specs.Prelude.{◌≡◌, List, [], ◌∷◌, ℕ, ◌-◌, ◌≤◌, ◌<◌, Some}
 use Rattle.budget.specs.declared.UpgradeBudget.{UpgradeBudget}
-use Rattle.budget.specs.declared.Exchange.TheVariants.{Running}
 
 -- an exchange runs, and its end is at or before the reading and before the deadline
 pub record ExchangeOver (b : UpgradeBudget) (at began end : ℕ) : Type 0 where
-  pub runs : b.running ≡ Running began end
+  pub runs : b.running ≡ Some (began, end)
   pub by_now : end ≤ at
   pub before_deadline : end < b.deadline
 

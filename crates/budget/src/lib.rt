@@ -1,21 +1,13 @@
 // The time limits of an upgrade (budget.rs): its deadline, its rounds and the running exchange.
 #![tactic(auto)]
 
-ghost use Rattle.std.specs.Prelude.{◌≡◌, ℕ, ◌-◌, ◌≤◌, List, [], ◌∷◌, ltb};
+ghost use Rattle.std.specs.Prelude.{◌≡◌, ℕ, ◌-◌, ◌≤◌, List, [], ◌∷◌, ltb, Some};
 ghost use Rattle.budget.specs.Budget.{max_rounds, armed, may_begin, begun, with_exchange, ended, window_end, upgrade_due, due_at, values_of, next_deadline};
 ghost use Rattle.budget.specs.Due.{Due};
-
-// The exchange of a round: when it began and when it must be over.
-#[derive(Clone, Copy)]
-pub enum Exchange {
-    Idle,
-    Running { started: u64, end: u64 },
-}
 
 // The limit that ran out, and how long it was.
 #[derive(Clone, Copy)]
 pub enum UpgradeStop {
-    None,
     ExchangeTimeout { round: u32, budget_ms: u64 },
     UpgradeTimeout { budget_ms: u64 },
 }
@@ -26,7 +18,8 @@ pub struct UpgradeBudget {
     pub armed: u64,
     // The whole upgrade ends then.
     pub deadline: u64,
-    pub running: Exchange,
+    // The exchange of a round: when it began and when it must be over.
+    pub running: Option<(u64, u64)>,
     // Rounds begun.
     pub rounds: u32,
     // How long an exchange may last, and a window.
@@ -37,17 +30,17 @@ pub struct UpgradeBudget {
 impl UpgradeBudget {
     pub const MAX_DCUTR_ROUNDS: u32 = 3;
 
+    #[tactic(auto, unfolding(crate::specs::Budget::armed))]
     pub fn arm(now: u64, upgrade: u64, exchange: u64, punch: u64) -> Self
         ensures { result ≡ armed now upgrade exchange punch }
     {
-        let deadline = time::saturating_add(now, upgrade);
         UpgradeBudget {
             armed: now,
-            deadline: deadline,
-            running: Exchange::Idle,
+            deadline: time::saturating_add(now, upgrade),
+            running: None,
             rounds: 0,
-            exchange: exchange,
-            punch: punch,
+            exchange,
+            punch,
         }
     }
 
@@ -70,6 +63,7 @@ impl UpgradeBudget {
     }
 
     // Whether begin_round begins a round.
+    #[tactic(auto, unfolding(crate::specs::Budget::may_begin))]
     pub fn may_begin(self, now: u64) -> bool
         ensures { result ≡ may_begin self now }
     {
@@ -77,43 +71,29 @@ impl UpgradeBudget {
     }
 
     // A round began where the answer has one round more; else the answer is the same budget.
+    #[tactic(auto, unfolding(crate::specs::Budget::begun, crate::specs::Budget::one_more, crate::specs::Budget::may_begin))]
     pub fn begin_round(mut self, now: u64) -> Self
         ensures { result ≡ begun self now }
     {
         if self.may_begin(now) {
             let until = time::saturating_add(now, self.exchange);
             let end = time::min(until, self.deadline);
-            self.rounds = self.rounds + 1;
-            self = self.with_exchange(Exchange::Running {
-                started: now,
-                end: end,
-            });
-            return self;
+            self.rounds += 1;
+            self.running = Some((now, end));
         }
         self
     }
 
+    #[tactic(auto, unfolding(crate::specs::Budget::ended, crate::specs::Budget::with_exchange))]
     pub fn end_exchange(mut self) -> Self
         ensures { result ≡ ended self }
     {
-        self = self.with_exchange(Exchange::Idle);
+        self.running = None;
         self
     }
 
-    fn with_exchange(self, running: Exchange) -> Self
-        ensures { result ≡ with_exchange self running }
-    {
-        UpgradeBudget {
-            armed: self.armed,
-            deadline: self.deadline,
-            running: running,
-            rounds: self.rounds,
-            exchange: self.exchange,
-            punch: self.punch,
-        }
-    }
-
     // The end of a window that opens at start.
+    #[tactic(auto, unfolding(crate::specs::Budget::window_end))]
     pub fn punch_window_end(self, start: u64) -> u64
         ensures { result ≡ window_end self start }
     {
@@ -122,51 +102,41 @@ impl UpgradeBudget {
     }
 
     // The limit that ran out by now. An exchange that the deadline cut short never had its own limit, so the upgrade's is named.
-    pub fn due(self, now: u64) -> UpgradeStop
+    #[tactic(auto, unfolding(crate::specs::Budget::due_at, crate::specs::Budget::upgrade_due))]
+    pub fn due(self, now: u64) -> Option<UpgradeStop>
         ensures { result ≡ due_at self now }
     {
-        let running = self.running;
-        match running {
-            Exchange::Running { started, end } => {
-                if end <= now && end < self.deadline {
-                    let budget_ms = time::saturating_sub(end, started);
-                    return UpgradeStop::ExchangeTimeout {
-                        round: self.rounds,
-                        budget_ms: budget_ms,
-                    };
-                }
-                return self.upgrade_due(now);
+        match self.running {
+            Some((started, end)) if end <= now && end < self.deadline => {
+                Some(UpgradeStop::ExchangeTimeout {
+                    round: self.rounds,
+                    budget_ms: time::saturating_sub(end, started),
+                })
             }
-            Exchange::Idle => {
-                return self.upgrade_due(now);
-            }
+            _ => self.upgrade_due(now),
         }
     }
 
-    fn upgrade_due(self, now: u64) -> UpgradeStop
+    #[tactic(auto, unfolding(crate::specs::Budget::upgrade_due))]
+    fn upgrade_due(self, now: u64) -> Option<UpgradeStop>
         ensures { result ≡ upgrade_due self now }
     {
         if now < self.deadline {
-            return UpgradeStop::None;
+            return None;
         }
-        let budget_ms = time::saturating_sub(self.deadline, self.armed);
-        UpgradeStop::UpgradeTimeout {
-            budget_ms: budget_ms,
-        }
+        Some(UpgradeStop::UpgradeTimeout {
+            budget_ms: time::saturating_sub(self.deadline, self.armed),
+        })
     }
 
     // The earliest limit that runs, for the driver's timer.
+    #[tactic(auto, unfolding(crate::specs::Budget::next_deadline))]
     pub fn next_deadline(self) -> u64
         ensures { result ≡ next_deadline self }
     {
-        let running = self.running;
-        match running {
-            Exchange::Running { started: _, end } => {
-                return time::min(end, self.deadline);
-            }
-            Exchange::Idle => {
-                return self.deadline;
-            }
+        match self.running {
+            Some((_, end)) => time::min(end, self.deadline),
+            None => self.deadline,
         }
     }
 }
@@ -178,7 +148,7 @@ pub fn round_told()
 
 // An exchange that lasts to the deadline or past it gives the upgrade's timeout.
 pub fn deadline_first()
-    ensures { (b : UpgradeBudget) (at started end : ℕ) → b.running ≡ Exchange.Running started end → b.deadline ≤ end → b.deadline ≤ at → values_of (due_at b at) ≡ 2 ∷ (b.deadline - b.armed) ∷ [] }
+    ensures { (b : UpgradeBudget) (at started end : ℕ) → b.running ≡ Some (started, end) → b.deadline ≤ end → b.deadline ≤ at → values_of (due_at b at) ≡ 2 ∷ (b.deadline - b.armed) ∷ [] }
 {}
 
 // What is due is what section 8 of the rule says, in numbers: each answer just in its case.

@@ -3,23 +3,22 @@
 use mathlib.Core.Path.{◌≡◌, refl, sym, ap, ◌∙◌}
 use mathlib.Core.Bool.{Bool, true, false, not}
 use mathlib.Core.List.{List, [], ◌∷◌}
-use Prim.Native.Nat.{ℕ, ◌+◌, ◌<◌, ◌≤◌}
+use Prim.Native.Nat.{ℕ, ◌<◌, ◌≤◌}
 use native.Mathlib.Omega.{arith}
-use native.Mathlib.Nat.{add-zero}
 use borrow.Author.Tests.{eqb-true, eq-eqb, leb-true, le-leb, lt-leb}
 use lib.Dec.{eqb, leb}
-use Rattle.prelude.specs.Choice.{pick, both, no, bit}
+use Rattle.std.specs.Prelude.{nat_eq, ◌&&◌, ◌||◌, Err, None, Ok, Option, Some, ℕ}
+use Rattle.std.specs.Cmp.Lexicographic.{pointwise}
+use Rattle.std.specs.List.{list_any}
+use Rattle.prelude.specs.Choice.{pick, both, either, no, bit}
 use Rattle.refusal.specs.declared.Refusal.TheVariants.{BrokenList}
-use Rattle.vocabulary.specs.declared.Outcome.TheVariants.{Accepted, Refused}
 use Rattle.wire.specs.Lists.{broken, listed}
 use Rattle.address.specs.Multiaddr.{parsed}
 use Rattle.address.specs.Words.{may_be_target}
 use Rattle.address.specs.declared.Ip.{Ip}
-use Rattle.address.specs.declared.Parsed.{Parsed}
-use Rattle.address.specs.declared.Parsed.TheVariants.{Address, Other}
-use Rattle.candidates.specs.Entries.{same_family, same_ip, same_bytes, contains}
+use Rattle.candidates.specs.Entries.{same_bytes, contains}
 use Rattle.candidates.specs.Selection.{most, held, counted, room_for, packed, answered}
-use Rattle.candidates.specs.OnePass.{tallied, suits, wanted_from}
+use Rattle.candidates.specs.OnePass.{suits, wanted_from}
 use Rattle.candidates.specs.declared.Source.{Source}
 use Rattle.candidates.specs.declared.Source.TheVariants.{Peer, Own}
 use Rattle.candidates.specs.declared.Limits.{Limits}
@@ -29,17 +28,6 @@ use Rattle.candidates.specs.declared.Counts.{Counts}
 pub bit_le : (b : Bool) → bit b ≤ 1
 bit_le true = omega arith
 bit_le false = omega arith
-
-module _ (ip : Ip) (n : Counts) (a : List ℕ) {p : Parsed} (q : p ≡ parsed a) where
-  pub tally_other : p ≡ Other → record { total = n.total + 1; family = n.family; ip = n.ip } ≡ tallied ip n a
-  tally_other e = rw (sym q ∙ e) (simp add-zero)
-
-  pub tally_address : {other : Ip} {port x y : ℕ} {f g : Bool} → p ≡ Address other port → x ≡ bit f → f ≡ same_family ip other → y ≡ bit g → g ≡ same_ip ip other
-      → record { total = n.total + 1; family = n.family + x; ip = n.ip + y } ≡ tallied ip n a
-  tally_address e r t u v = rw (sym q ∙ e, r, t, u, v)
-
-pub last_of_four : (a b c d : Bool) → a ≡ true → b ≡ true → c ≡ true → d ≡ both a (both b (both c d))
-last_of_four a b c d p q r = rw (p, q, r)
 
 pub same_self : (a : List ℕ) → same_bytes a a ≡ true
 unfolding same_bytes
@@ -57,13 +45,26 @@ same_true (x ∷ a) (y ∷ b) e = by_test (eqb x y) refl (same_true a b) e
     by_test true u f v = let i : x ≡ y = eqb-true x y u in let j : a ≡ b = f v in cc
     by_test false u f v = let z : ◌≡◌ {A = ℕ} 0 1 = cc in absurd (omega arith)
 
-pub same_is : (a b : List ℕ) (r : Bool) → (r ≡ true → a ≡ b) → (a ≡ b → r ≡ true) → r ≡ same_bytes a b
-same_is a b true f g = rw (sym (f refl)) (sym (same_self a))
-same_is a b false f g = by_test (same_bytes a b) refl
+-- `==` of two slices is `same_bytes`
+pub same_is : (a b : List ℕ) → pointwise nat_eq a b ≡ same_bytes a b
+unfolding same_bytes
+same_is [] [] = refl
+same_is [] (y ∷ b) = refl
+same_is (x ∷ a) [] = refl
+same_is (x ∷ a) (y ∷ b) = by_test (nat_eq x y) ∙ ap (both (nat_eq x y)) (same_is a b)
   where
-    by_test : (t : Bool) → same_bytes a b ≡ t → false ≡ t
-    by_test true e = g (same_true a b e)
-    by_test false e = refl
+    by_test : (t : Bool) → (t && pointwise nat_eq a b) ≡ both t (pointwise nat_eq a b)
+    by_test true = refl
+    by_test false = refl
+
+pub contains_is : (a : List ℕ) (xs : List (List ℕ)) → list_any (same_bytes a) xs ≡ contains a xs
+unfolding contains
+contains_is a [] = refl
+contains_is a (x ∷ xs) = by_test (same_bytes a x) ∙ ap (either (same_bytes a x)) (contains_is a xs)
+  where
+    by_test : (t : Bool) → (t || list_any (same_bytes a) xs) ≡ either t (list_any (same_bytes a) xs)
+    by_test true = refl
+    by_test false = refl
 
 -- ---- a total over the most
 module _ (l : Limits) where
@@ -92,12 +93,12 @@ module _ (source : Source) (xs : List (List ℕ)) (a : List ℕ) (ip : Ip) where
       negated true = refl
       negated false = refl
 
-module _ (l : Limits) (source : Source) (xs : List (List ℕ)) (a : List ℕ) {p : Parsed} (q : p ≡ parsed a) where
-  pub wanted_other : p ≡ Other → false ≡ wanted_from l source xs a
+module _ (l : Limits) (source : Source) (xs : List (List ℕ)) (a : List ℕ) {p : Option (Ip × ℕ)} (q : p ≡ parsed a) where
+  pub wanted_other : p ≡ None → false ≡ wanted_from l source xs a
   unfolding wanted_from
   wanted_other e = rw (sym q ∙ e)
 
-  module _ {ip : Ip} {port : ℕ} {f : Bool} (e : p ≡ Address ip port) (s : f ≡ suits source xs a ip) where
+  module _ {ip : Ip} {port : ℕ} {f : Bool} (e : p ≡ Some (ip, port)) (s : f ≡ suits source xs a ip) where
     pub wanted_not : f ≡ false → false ≡ wanted_from l source xs a
     unfolding wanted_from
     wanted_not t = rw (sym q ∙ e) (rw (sym s ∙ t))
@@ -107,10 +108,10 @@ module _ (l : Limits) (source : Source) (xs : List (List ℕ)) (a : List ℕ) {p
     wanted_room t c h = rw (sym q ∙ e) (rw (sym s ∙ t) (h ∙ ap (λ (x : Counts). room_for l x port) c))
 
 -- ---- the answer
-pub answer_refused : (s : List ℕ) (xs : List (List ℕ)) {b : Bool} {c : Chosen} → b ≡ broken s → b ≡ true → c ≡ packed [] → record { outcome = Refused BrokenList; chosen = c } ≡ answered s xs
+pub answer_refused : (s : List ℕ) (xs : List (List ℕ)) {b : Bool} {c : Chosen} → b ≡ broken s → b ≡ true → c ≡ packed [] → record { outcome = Err BrokenList; chosen = c } ≡ answered s xs
 unfolding answered
 answer_refused s xs e t q = rw (sym e ∙ t, q)
 
-pub answer_kept : (s : List ℕ) (xs : List (List ℕ)) {b : Bool} {c : Chosen} → b ≡ broken s → b ≡ false → c ≡ packed (listed xs) → record { outcome = Accepted; chosen = c } ≡ answered s xs
+pub answer_kept : (s : List ℕ) (xs : List (List ℕ)) {b : Bool} {c : Chosen} → b ≡ broken s → b ≡ false → c ≡ packed (listed xs) → record { outcome = Ok tt; chosen = c } ≡ answered s xs
 unfolding answered
 answer_kept s xs e t q = rw (sym e ∙ t, q)

@@ -8,13 +8,12 @@ use native.Mathlib.Omega.{arith}
 use borrow.Author.Tests.{ltb-true, leb-true, eqb-true}
 use lib.Dec.{ltb, leb, eqb}
 use lib.ListN.{length}
+use Rattle.std.specs.Prelude.{None, Option, Some, ℕ}
 use Rattle.prelude.specs.Lists.{count}
 use Rattle.prelude.specs.Choice.{pick, both, bit}
 use Rattle.address.specs.Multiaddr.{parsed}
 use Rattle.address.specs.declared.Ip.{Ip}
 use Rattle.address.specs.declared.Ip.TheVariants.{V4, V6}
-use Rattle.address.specs.declared.Parsed.{Parsed}
-use Rattle.address.specs.declared.Parsed.TheVariants.{Address, Other}
 use Rattle.candidates.specs.Entries.{same_family, same_ip, of_parsed, of_address, in_family, has_ip}
 use Rattle.candidates.specs.Selection.{counted, room_for, room, keep, bounded}
 use Rattle.candidates.specs.declared.Limits.{Limits}
@@ -25,7 +24,7 @@ use Rattle.candidates.proofs.Passes.{count_append}
 pub record Room (l : Limits) (got : List (List ℕ)) (a : List ℕ) : Type 0 where
   pub ip : Ip
   pub port : ℕ
-  pub is : parsed a ≡ Address ip port
+  pub is : parsed a ≡ Some (ip, port)
   pub high : l.port ≤ port
   pub total_left : length got < l.total
   pub family_left : count (in_family ip) got < l.family
@@ -35,13 +34,13 @@ pub room_says : (l : Limits) (got : List (List ℕ)) (a : List ℕ) → room l g
 unfolding room
 room_says l got a e = by_parsed (parsed a) refl e
   where
-    by_parsed : (p : Parsed) → parsed a ≡ p → of_parsed p (λ ip port. room_for l (counted ip got) port) ≡ true → Room l got a
-    by_parsed (Address ip port) h t =
+    by_parsed : (p : Option (Ip × ℕ)) → parsed a ≡ p → of_parsed p (λ ip port. room_for l (counted ip got) port) ≡ true → Room l got a
+    by_parsed (Some (ip, port)) h t =
         let u = both_true (leb l.port port) (both (ltb (length got) l.total) (both (ltb (count (in_family ip) got) l.family) (ltb (count (has_ip ip) got) l.ip))) t in
         let v = both_true (ltb (length got) l.total) (both (ltb (count (in_family ip) got) l.family) (ltb (count (has_ip ip) got) l.ip)) u.1 in
         let w = both_true (ltb (count (in_family ip) got) l.family) (ltb (count (has_ip ip) got) l.ip) v.1 in
         record { ip = ip; port = port; is = h; high = leb-true l.port port u.0; total_left = ltb-true (length got) l.total v.0; family_left = ltb-true (count (in_family ip) got) l.family w.0; ip_left = ltb-true (count (has_ip ip) got) l.ip w.1 }
-    by_parsed Other h t = let z : ◌≡◌ {A = ℕ} 0 1 = cc in absurd (omega arith)
+    by_parsed None h t = let z : ◌≡◌ {A = ℕ} 0 1 = cc in absurd (omega arith)
 
 -- a count that room keeps below a number stays at most that number
 module _ (l : Limits) (p : List ℕ → Bool) (m : ℕ) (below : (got : List (List ℕ)) (a : List ℕ) → room l got a ≡ true → p a ≡ true → count p got < m) where
@@ -87,11 +86,11 @@ ip_same (V6 h l) (V6 g k) e =
     let y : l ≡ k = eqb-true l k t.1 in
     cc
 
-pub alike : (p : Parsed) (i j : Ip) → same_family i j ≡ true → of_parsed p (λ other port. same_family i other) ≡ of_parsed p (λ other port. same_family j other)
-alike (Address ip port) i j e = family_of i j ip e
-alike Other i j e = refl
+pub alike : (p : Option (Ip × ℕ)) (i j : Ip) → same_family i j ≡ true → of_parsed p (λ other port. same_family i other) ≡ of_parsed p (λ other port. same_family j other)
+alike (Some (ip, port)) i j e = family_of i j ip e
+alike None i j e = refl
 
-pub of_parsed_lem : (f : Ip → ℕ → Bool) (a : List ℕ) {ip : Ip} {port : ℕ} → parsed a ≡ Address ip port → of_address f a ≡ f ip port
+pub of_parsed_lem : (f : Ip → ℕ → Bool) (a : List ℕ) {ip : Ip} {port : ℕ} → parsed a ≡ Some (ip, port) → of_address f a ≡ f ip port
 of_parsed_lem f a e = rw e
 
 pub total_kept : (l : Limits) (xs : List (List ℕ)) → length (bounded l xs) ≤ l.total

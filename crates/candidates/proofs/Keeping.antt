@@ -7,17 +7,15 @@ use Prim.Native.Nat.{ℕ, ◌+◌, ◌-◌, ◌*◌, ◌<◌, ◌≤◌}
 use native.Mathlib.Omega.{arith}
 use borrow.Author.Tests.{ltb-true}
 use lib.Dec.{ltb, leb}
-use lib.ListN.{length, take, drop, replicate, length-append, length-take, length-drop, length-replicate, replicate-append-replicate}
+use lib.ListN.{length, take, drop, replicate, length-append, length-replicate, replicate-append-replicate}
 use lib.Seq.{sets, sets-eq, take-append_seam, drop-append-add, drop_at}
+use Rattle.std.specs.Prelude.{None, Option, Some, ℕ}
 use Rattle.prelude.specs.Choice.{pick, both}
 use Rattle.address.specs.Multiaddr.{parsed, has_form, number}
 use Rattle.address.specs.declared.Ip.{Ip}
 use Rattle.address.specs.declared.Ip.TheVariants.{V4, V6}
-use Rattle.address.specs.declared.Parsed.{Parsed}
-use Rattle.address.specs.declared.Parsed.TheVariants.{Address, Other}
 use Rattle.address.proofs.Digits.{address_short}
 use Rattle.wire.specs.Lists.{entries, entry, listed}
-use Rattle.wire.proofs.Entries.{AddressAt, entries_address}
 use Rattle.wire.proofs.Listed.{All, listed_snoc, read_back}
 use Rattle.candidates.specs.Entries.{of_parsed}
 use Rattle.candidates.specs.Selection.{counted, room_for, packed, most, longest, capacity}
@@ -29,12 +27,12 @@ use Rattle.candidates.specs.declared.Chosen.{Chosen}
 use Rattle.candidates.proofs.Listing.{all_snoc, all_map, listed_long}
 
 -- an address has at most `longest` bytes
-pub address_size : (a : List ℕ) {ip : Ip} {port : ℕ} → parsed a ≡ Address ip port → length a ≤ longest
+pub address_size : (a : List ℕ) {ip : Ip} {port : ℕ} → parsed a ≡ Some (ip, port) → length a ≤ longest
 unfolding parsed
 address_size a {ip} {port} e = by_test (has_form 0x04 4 a) (has_form 0x29 16 a) refl refl e
   where
     by_test : (p q : Bool) → has_form 0x04 4 a ≡ p → has_form 0x29 16 a ≡ q
-        → pick p (Address (V4 (number 1 5 a)) (number 7 9 a)) (pick q (Address (V6 (number 1 9 a) (number 9 17 a)) (number 19 21 a)) Other) ≡ Address ip port → length a ≤ longest
+        → pick {A = Option (Ip × ℕ)} p (Some (V4 (number 1 5 a), number 7 9 a)) (pick q (Some (V6 (number 1 9 a) (number 9 17 a), number 19 21 a)) None) ≡ Some (ip, port) → length a ≤ longest
     by_test true q h g t = omega (arith, address_short 0x04 4 a h)
     by_test false true h g t = omega (arith, address_short 0x29 16 a g)
     by_test false false h g t = let z : ◌≡◌ {A = ℕ} 0 1 = cc in absurd (omega arith)
@@ -51,11 +49,11 @@ pub wanted_small : (l : Limits) (source : Source) (xs : List (List ℕ)) (a : Li
 unfolding wanted_from
 wanted_small l source xs a e = by_parsed (parsed a) refl e
   where
-    by_parsed : (p : Parsed) → parsed a ≡ p → of_parsed p (λ ip port. both (suits source xs a ip) (room_for l (counted ip xs) port)) ≡ true → (length a ≤ longest) × (length xs < l.total)
-    by_parsed (Address ip port) h t =
+    by_parsed : (p : Option (Ip × ℕ)) → parsed a ≡ p → of_parsed p (λ ip port. both (suits source xs a ip) (room_for l (counted ip xs) port)) ≡ true → (length a ≤ longest) × (length xs < l.total)
+    by_parsed (Some (ip, port)) h t =
         let r = (both_true (suits source xs a ip) (room_for l (counted ip xs) port) t).1 in
         (address_size a h, room_total l (counted ip xs) port r)
-    by_parsed Other h t = let z : ◌≡◌ {A = ℕ} 0 1 = cc in absurd (omega arith)
+    by_parsed None h t = let z : ◌≡◌ {A = ℕ} 0 1 = cc in absurd (omega arith)
 
 abbrev zeros : ℕ → List ℕ
 zeros n = replicate n 0
@@ -82,24 +80,20 @@ pad_snoc s a h =
     ∙ ap (λ (x : List ℕ). (s ++ entry a) ++ x) u
     ∙ ap (λ (i : ℕ). (s ++ entry a) ++ zeros i) (sym l)
 
-part_long : {list : List ℕ} {at b e : ℕ} → AddressAt list at b e → length (take (e - b) (drop b list)) ≡ e - b
-part_long {list} {at} {b} {e} w = let i = w.inside in simp (length-take, length-drop) (omega arith)
-
-pub record Keeping (l : Limits) (list : List ℕ) (source : Source) (bytes : List ℕ) (len at : ℕ) : Type 0 where
+pub record Keeping (l : Limits) (source : Source) (all : List (List ℕ)) (bytes : List ℕ) (len : ℕ) (left : List (List ℕ)) : Type 0 where
   pub got : List (List ℕ)
-  pub inside : at ≤ length list
   pub bytes_are : bytes ≡ (packed (listed got)).bytes
   pub len_is : len ≡ length (listed got)
   pub few : length got ≤ l.total
   pub each : All (λ a. length a ≤ longest) got
-  pub rest : foldl (kept_from l source) [] (entries list) ≡ foldl (kept_from l source) got (entries (drop at list))
+  pub rest : foldl (kept_from l source) [] all ≡ foldl (kept_from l source) got left
 
-pub keep_none : (l : Limits) (list : List ℕ) (source : Source) {c : Chosen} → c ≡ packed [] → Keeping l list source c.bytes 0 0
+pub keep_none : (l : Limits) (source : Source) (all : List (List ℕ)) {c : Chosen} → c ≡ packed [] → Keeping l source all c.bytes c.len all
 unfolding listed
-keep_none l list source e =
-    record { got = []; inside = omega arith; bytes_are = ap (λ (c : Chosen). c.bytes) e; len_is = refl; few = omega arith; each = tt; rest = refl }
+keep_none l source all e =
+    record { got = []; bytes_are = ap (λ (c : Chosen). c.bytes) e; len_is = ap (λ (c : Chosen). c.len) e; few = omega arith; each = tt; rest = refl }
 
-module _ {l : Limits} (small : l.total ≤ most) {list : List ℕ} {source : Source} {bytes : List ℕ} {len at : ℕ} (h : Keeping l list source bytes len at) where
+module _ {l : Limits} (small : l.total ≤ most) {source : Source} {all : List (List ℕ)} {bytes : List ℕ} {len : ℕ} {left : List (List ℕ)} (h : Keeping l source all bytes len left) where
   pub keep_len : len ≤ (longest + 2) * length h.got
   keep_len = omega (arith, listed_long h.got h.each, h.len_is)
 
@@ -108,6 +102,9 @@ module _ {l : Limits} (small : l.total ≤ most) {list : List ℕ} {source : Sou
       let g : len ≤ capacity = omega (arith, keep_len, h.few) in
       ap length h.bytes_are ∙ length-append (listed h.got) (zeros (capacity - length (listed h.got)))
       ∙ omega (arith, length-replicate {A = ℕ} (capacity - length (listed h.got)) 0, h.len_is)
+
+  pub keep_inside : len ≤ length bytes
+  keep_inside = omega (arith, keep_len, keep_full, h.few)
 
   pub keep_part : take len bytes ≡ listed h.got
   keep_part = rw (h.bytes_are, h.len_is) (take-append_seam (listed h.got) (zeros (capacity - length (listed h.got))))
@@ -118,53 +115,52 @@ module _ {l : Limits} (small : l.total ≤ most) {list : List ℕ} {source : Sou
   keep_read : entries (take len bytes) ≡ h.got
   keep_read = ap entries keep_part ∙ read_back h.got (all_map (λ a. length a ≤ longest) (λ a. length a < 65536) (λ (a : List ℕ) (n : length a ≤ longest). omega arith) h.got h.each)
 
-  pub keep_done : entries (drop at list) ≡ [] → record { bytes = bytes; len = len } ≡ packed (listed (foldl (kept_from l source) [] (entries list)))
+  pub keep_done : left ≡ [] → record { bytes = bytes; len = len } ≡ packed (listed (foldl (kept_from l source) [] all))
   keep_done e =
-      let f : foldl (kept_from l source) [] (entries list) ≡ h.got = h.rest ∙ ap (foldl (kept_from l source) h.got) e in
+      let f : foldl (kept_from l source) [] all ≡ h.got = h.rest ∙ ap (foldl (kept_from l source) h.got) e in
       let b = h.bytes_are in
       let n = h.len_is in
       (λ i. record { bytes = b i; len = n i }) ∙ ap (λ (x : List (List ℕ)). packed (listed x)) (sym f)
 
-  module _ {b e : ℕ} (w : AddressAt list at b e) {r : Bool} (q : r ≡ wanted_from l source (entries (take len bytes)) (take (e - b) (drop b list))) where
-    asked : r ≡ wanted_from l source h.got (take (e - b) (drop b list))
-    asked = q ∙ ap (λ (x : List (List ℕ)). wanted_from l source x (take (e - b) (drop b list))) keep_read
+  module _ {a : List ℕ} {others : List (List ℕ)} (w : left ≡ a ∷ others) {r : Bool} (q : r ≡ wanted_from l source (entries (take len bytes)) a) where
+    asked : r ≡ wanted_from l source h.got a
+    asked = q ∙ ap (λ (x : List (List ℕ)). wanted_from l source x a) keep_read
 
-    pub keep_room : r ≡ true → len + 2 + (e - b) ≤ capacity
+    next : foldl (kept_from l source) [] all ≡ foldl (kept_from l source) (kept_from l source h.got a) others
+    next = h.rest ∙ ap (foldl (kept_from l source) h.got) w
+
+    pub keep_room : r ≡ true → len + (2 + length a) ≤ capacity
     keep_room t =
-        let s = wanted_small l source h.got (take (e - b) (drop b list)) (sym asked ∙ t) in
-        omega (arith, part_long w, keep_len)
+        let s = wanted_small l source h.got a (sym asked ∙ t) in
+        omega (arith, keep_len)
 
-    kept_not : r ≡ false → kept_from l source h.got (take (e - b) (drop b list)) ≡ h.got
+    kept_not : r ≡ false → kept_from l source h.got a ≡ h.got
     kept_not t = rw (sym asked ∙ t)
 
-    kept_one : r ≡ true → kept_from l source h.got (take (e - b) (drop b list)) ≡ h.got ++ (take (e - b) (drop b list) ∷ [])
+    kept_one : r ≡ true → kept_from l source h.got a ≡ h.got ++ (a ∷ [])
     kept_one t = rw (sym asked ∙ t)
 
-    pub keep_skip : r ≡ false → Keeping l list source bytes len e
+    pub keep_skip : r ≡ false → Keeping l source all bytes len others
     keep_skip t = record {
       got = h.got;
-      inside = w.inside;
       bytes_are = h.bytes_are;
       len_is = h.len_is;
       few = h.few;
       each = h.each;
-      rest = h.rest ∙ ap (foldl (kept_from l source) h.got) (entries_address list at w) ∙ ap (λ (x : List (List ℕ)). foldl (kept_from l source) x (entries (drop e list))) (kept_not t);
+      rest = next ∙ ap (λ (x : List (List ℕ)). foldl (kept_from l source) x others) (kept_not t);
     }
 
-    pub keep_more : r ≡ true → {more : List ℕ} → more ≡ sets bytes len (entry (take (e - b) (drop b list))) → Keeping l list source more (len + 2 + (e - b)) e
+    pub keep_more : r ≡ true → {more : List ℕ} → more ≡ sets bytes len (entry a) → Keeping l source all more (len + (2 + length a)) others
     keep_more t {more} p =
-        let a = take (e - b) (drop b list) in
-        let z : length a ≡ e - b = part_long w in
         let s = wanted_small l source h.got a (sym asked ∙ t) in
         let c = listed_snoc h.got a in
         let k = h.len_is in
         let f : length (listed h.got) + 2 + length a ≤ capacity = omega (arith, keep_len, h.few, k) in
         record {
           got = h.got ++ (a ∷ []);
-          inside = w.inside;
           bytes_are = p ∙ rw (h.bytes_are, k) (pad_snoc (listed h.got) a f) ∙ ap pad (sym c);
-          len_is = omega (arith, k, z, ap length c, length-append (listed h.got) (entry a));
+          len_is = omega (arith, k, ap length c, length-append (listed h.got) (entry a));
           few = omega (arith, s.1, length-append h.got (a ∷ []));
           each = all_snoc (λ a. length a ≤ longest) h.got a h.each s.0;
-          rest = h.rest ∙ ap (foldl (kept_from l source) h.got) (entries_address list at w) ∙ ap (λ (x : List (List ℕ)). foldl (kept_from l source) x (entries (drop e list))) (kept_one t);
+          rest = next ∙ ap (λ (x : List (List ℕ)). foldl (kept_from l source) x others) (kept_one t);
         }

@@ -10,7 +10,7 @@ use lib.Dec.{eqb, leb}
 use lib.ListN.{length, drop, length-append}
 use lib.Seq.{drop-drop, drop-append_seam}
 use Rattle.wire.specs.Lists.{along, broken, entry, listed}
-use Rattle.wire.proofs.Entries.{once_round}
+use Rattle.wire.proofs.EntryByEntry.{once_round}
 use Rattle.wire.proofs.Listed.{All}
 use Rattle.candidates.specs.Selection.{longest}
 

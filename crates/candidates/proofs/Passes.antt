@@ -8,12 +8,11 @@ use native.Mathlib.Omega.{arith}
 use borrow.Author.Tests.{ltb-false, le-ltb}
 use lib.Dec.{ltb, leb}
 use lib.ListN.{length-append}
+use Rattle.std.specs.Prelude.{None, Option, Some, ℕ}
 use Rattle.prelude.specs.Lists.{count, such}
 use Rattle.prelude.specs.Choice.{pick, both, no}
 use Rattle.address.specs.Multiaddr.{parsed}
 use Rattle.address.specs.Words.{may_be_target}
-use Rattle.address.specs.declared.Parsed.{Parsed}
-use Rattle.address.specs.declared.Parsed.TheVariants.{Address, Other}
 use Rattle.candidates.specs.Entries.{same_bytes, contains, of_parsed, is_address, in_family, has_ip}
 use Rattle.candidates.specs.Selection.{counted, room_for, room, keep, bounded, punchable, selected, unless_there, once, own}
 use Rattle.candidates.specs.OnePass.{wanted_from, kept_from}
@@ -21,15 +20,16 @@ use Rattle.candidates.specs.declared.Source.TheVariants.{Peer, Own, Any}
 use Rattle.candidates.specs.declared.Limits.{Limits}
 use Rattle.candidates.specs.declared.Counts.{Counts}
 use Rattle.candidates.proofs.Answers.{same_true}
+use Rattle.address.specs.declared.Ip.{Ip}
 
 -- ---- the peer's list
 wanted_peer : (l : Limits) (private : Bool) (xs : List (List ℕ)) (a : List ℕ) → wanted_from l (Peer private) xs a ≡ both (punchable private a) (room l xs a)
 unfolding wanted_from room
 wanted_peer l private xs a = by_parsed (parsed a)
   where
-    by_parsed : (p : Parsed) → of_parsed p (λ ip port. both (may_be_target private ip) (room_for l (counted ip xs) port)) ≡ both (of_parsed p (λ ip port. may_be_target private ip)) (of_parsed p (λ ip port. room_for l (counted ip xs) port))
-    by_parsed (Address ip port) = refl
-    by_parsed Other = refl
+    by_parsed : (p : Option (Ip × ℕ)) → of_parsed p (λ ip port. both (may_be_target private ip) (room_for l (counted ip xs) port)) ≡ both (of_parsed p (λ ip port. may_be_target private ip)) (of_parsed p (λ ip port. room_for l (counted ip xs) port))
+    by_parsed (Some (ip, port)) = refl
+    by_parsed None = refl
 
 peer_from : (l : Limits) (private : Bool) (got xs : List (List ℕ)) → foldl (kept_from l (Peer private)) got xs ≡ foldl (keep l) got (such (punchable private) xs)
 unfolding such
@@ -91,11 +91,11 @@ room_less : (l : Limits) (xs ys : List (List ℕ)) (a : List ℕ) → room l xs 
 unfolding room
 room_less l xs ys a e = by_parsed (parsed a) e
   where
-    by_parsed : (p : Parsed) → of_parsed p (λ ip port. room_for l (counted ip xs) port) ≡ false → of_parsed p (λ ip port. room_for l (counted ip (xs ++ ys)) port) ≡ false
-    by_parsed (Address ip port) h =
+    by_parsed : (p : Option (Ip × ℕ)) → of_parsed p (λ ip port. room_for l (counted ip xs) port) ≡ false → of_parsed p (λ ip port. room_for l (counted ip (xs ++ ys)) port) ≡ false
+    by_parsed (Some (ip, port)) h =
         room_for_less l (counted ip xs) (counted ip (xs ++ ys)) port
         (omega (arith, length-append xs ys)) (omega (arith, count_append (in_family ip) xs ys)) (omega (arith, count_append (has_ip ip) xs ys)) h
-    by_parsed Other h = refl
+    by_parsed None h = refl
 
 -- ---- what a list holds
 pub holds_append : (a : List ℕ) (xs ys : List (List ℕ)) → contains a (xs ++ ys) ≡ pick (contains a xs) true (contains a ys)
@@ -167,17 +167,17 @@ wanted_own : (l : Limits) (xs : List (List ℕ)) (a : List ℕ) → wanted_from 
 unfolding wanted_from room
 wanted_own l xs a = by_parsed (parsed a)
   where
-    by_parsed : (p : Parsed) → of_parsed p (λ ip port. both (no (contains a xs)) (room_for l (counted ip xs) port)) ≡ both (no (contains a xs)) (of_parsed p (λ ip port. room_for l (counted ip xs) port))
-    by_parsed (Address ip port) = refl
-    by_parsed Other = sym (both_false (no (contains a xs)))
+    by_parsed : (p : Option (Ip × ℕ)) → of_parsed p (λ ip port. both (no (contains a xs)) (room_for l (counted ip xs) port)) ≡ both (no (contains a xs)) (of_parsed p (λ ip port. room_for l (counted ip xs) port))
+    by_parsed (Some (ip, port)) = refl
+    by_parsed None = sym (both_false (no (contains a xs)))
 
 not_wanted : (l : Limits) (xs : List (List ℕ)) (a : List ℕ) → is_address a ≡ false → wanted_from l Own xs a ≡ false
 unfolding wanted_from
 not_wanted l xs a e = by_parsed (parsed a) e
   where
-    by_parsed : (p : Parsed) → of_parsed p (λ ip port. true) ≡ false → of_parsed p (λ ip port. both (no (contains a xs)) (room_for l (counted ip xs) port)) ≡ false
-    by_parsed (Address ip port) h = let z : ◌≡◌ {A = ℕ} 0 1 = cc in absurd (omega arith)
-    by_parsed Other h = refl
+    by_parsed : (p : Option (Ip × ℕ)) → of_parsed p (λ ip port. true) ≡ false → of_parsed p (λ ip port. both (no (contains a xs)) (room_for l (counted ip xs) port)) ≡ false
+    by_parsed (Some (ip, port)) h = let z : ◌≡◌ {A = ℕ} 0 1 = cc in absurd (omega arith)
+    by_parsed None h = refl
 
 own_addresses : (l : Limits) (got xs : List (List ℕ)) → foldl (kept_from l Own) got xs ≡ foldl (kept_from l Own) got (such is_address xs)
 unfolding such

@@ -10,12 +10,12 @@ use borrow.Author.Tests.{leb-false, ltb-true, ltb-false, le-leb, le-ltb}
 use lib.Dec.{ltb, leb}
 use lib.ListN.{length, take, replicate, length-append}
 use lib.Seq.{take-append_seam}
+use Rattle.std.specs.Prelude.{None, Some, Option}
 use Rattle.prelude.specs.Lists.{count, such}
 use Rattle.prelude.specs.Choice.{both, no, bit}
 use Rattle.address.specs.Multiaddr.{parsed, has_form, number, longest4, longest6}
 use Rattle.address.specs.declared.Ip.{Ip}
 use Rattle.address.specs.declared.Ip.TheVariants.{V4, V6}
-use Rattle.address.specs.declared.Parsed.TheVariants.{Address, Other}
 use Rattle.address.proofs.Digits.{address_short}
 use Rattle.wire.specs.Lists.{entries, broken, entry, listed}
 use Rattle.wire.proofs.Listed.{All, read_back}
@@ -71,7 +71,7 @@ met l got ip port e = by_tests (leb l.port port) (ltb (length got) l.total) (ltb
     by_tests true true true true a b c d e = let z : ◌≡◌ {A = ℕ} 0 1 = cc in absurd (omega arith)
 
 -- the next address of a list that is bounded
-next : (l : Limits) (ys zs : List (List ℕ)) (a : List ℕ) (ip : Ip) (port : ℕ) → parsed a ≡ Address ip port
+next : (l : Limits) (ys zs : List (List ℕ)) (a : List ℕ) (ip : Ip) (port : ℕ) → parsed a ≡ Some (ip, port)
     → ((rest : List (List ℕ)) × (bounded l (ys ++ (a ∷ zs)) ≡ bounded l ys ++ (a ∷ rest))) ⊎ LimitMet l (bounded l ys) ip port
 unfolding bounded room
 next l ys zs a ip port e = by_test (room_for l (counted ip got) port) refl
@@ -125,7 +125,7 @@ pub record Sized (a : List ℕ) : Type 0 where
   pub adds : entry_size (length a) ≤ entry_size longest4 * bit (in_family (V4 0) a) + entry_size longest6 * bit (in_family (V6 0 0) a)
   pub small : length a ≤ longest
 
-sized4 : (a : List ℕ) (n port : ℕ) → parsed a ≡ Address (V4 n) port → length a ≤ longest4 → Sized a
+sized4 : (a : List ℕ) (n port : ℕ) → parsed a ≡ Some (V4 n, port) → length a ≤ longest4 → Sized a
 sized4 a n port e l =
     record {
       is = of_parsed_lem (λ ip p. leb (length a) (longest_of ip)) a e ∙ le-leb (length a) longest4 l;
@@ -134,7 +134,7 @@ sized4 a n port e l =
       small = omega arith;
     }
 
-sized6 : (a : List ℕ) (h l port : ℕ) → parsed a ≡ Address (V6 h l) port → length a ≤ longest6 → Sized a
+sized6 : (a : List ℕ) (h l port : ℕ) → parsed a ≡ Some (V6 h l, port) → length a ≤ longest6 → Sized a
 sized6 a h l port e g =
     record {
       is = of_parsed_lem (λ ip p. leb (length a) (longest_of ip)) a e ∙ le-leb (length a) longest6 g;
@@ -143,14 +143,14 @@ sized6 a h l port e g =
       small = omega arith;
     }
 
-sized : (a : List ℕ) (ip : Ip) (port : ℕ) → parsed a ≡ Address ip port → Sized a
+sized : (a : List ℕ) (ip : Ip) (port : ℕ) → parsed a ≡ Some (ip, port) → Sized a
 unfolding parsed
 sized a ip port e = by_test (has_form 0x04 4 a) (has_form 0x29 16 a) refl refl
   where
     by_test : (p q : Bool) → has_form 0x04 4 a ≡ p → has_form 0x29 16 a ≡ q → Sized a
     by_test true q f g = sized4 a (number 1 5 a) (number 7 9 a) (rw f) (address_short 0x04 4 a f)
     by_test false true f g = sized6 a (number 1 9 a) (number 9 17 a) (number 19 21 a) (rw (f, g)) (address_short 0x29 16 a g)
-    by_test false false f g = let z : Other ≡ Address ip port = sym (rw (f, g)) ∙ e in let o : ◌≡◌ {A = ℕ} 0 1 = cc in absurd (omega arith)
+    by_test false false f g = let z : ◌≡◌ {A = Option (Ip × ℕ)} None (Some (ip, port)) = sym (rw (f, g)) ∙ e in let o : ◌≡◌ {A = ℕ} 0 1 = cc in absurd (omega arith)
 
 all_sized : (l : Limits) (xs : List (List ℕ)) → All Sized (bounded l xs)
 all_sized l xs = all_bounded l Sized (λ (got : List (List ℕ)) (a : List ℕ) (r : room l got a ≡ true). let w = room_says l got a r in sized a w.ip w.port w.is) xs

@@ -1,11 +1,9 @@
 -- The entries of an address list, and how many of them have a property (RULES.md, section 7).
-use Rattle.std.specs.Prelude.{ℕ, Bool, true, false, List, [], ◌∷◌, eqb, ltb, length}
+use Rattle.std.specs.Prelude.{ℕ, Bool, true, false, List, [], ◌∷◌, eqb, ltb, length, None, Option, Some}
 use Rattle.prelude.specs.Choice.{both, either}
 use Rattle.address.specs.Multiaddr.{parsed}
 use Rattle.address.specs.declared.Ip.{Ip}
 use Rattle.address.specs.declared.Ip.TheVariants.{V4, V6}
-use Rattle.address.specs.declared.Parsed.{Parsed}
-use Rattle.address.specs.declared.Parsed.TheVariants.{Address, Other}
 
 unfoldable pub same_bytes : List ℕ → List ℕ → Bool
 same_bytes [] [] = true
@@ -31,9 +29,9 @@ same_ip (V6 h l) (V4 b) = false
 same_ip (V6 h l) (V6 g k) = both (eqb h g) (eqb l k)
 
 -- what a test says of the IP and the port of an entry; one that is no address does not pass
-abbrev pub of_parsed : Parsed → (Ip → ℕ → Bool) → Bool
-of_parsed (Address ip port) f = f ip port
-of_parsed Other f = false
+abbrev pub of_parsed : Option (Ip × ℕ) → (Ip → ℕ → Bool) → Bool
+of_parsed (Some (ip, port)) f = f ip port
+of_parsed None f = false
 
 abbrev pub of_address : (Ip → ℕ → Bool) → List ℕ → Bool
 of_address f a = of_parsed (parsed a) f

@@ -1,10 +1,9 @@
 -- What the candidates keep to (RULES.md, section 7).
-use Rattle.std.specs.Prelude.{◌≡◌, Bool, true, false, List, [], ◌∷◌, ◌++◌, ◌⊎◌, ℕ, ◌<◌, ◌≤◌, leb, length, take}
+use Rattle.std.specs.Prelude.{◌≡◌, Bool, true, false, List, [], ◌∷◌, ◌++◌, ◌⊎◌, ℕ, ◌<◌, ◌≤◌, leb, length, take, Some}
 use Rattle.prelude.specs.Lists.{count}
 use Rattle.wire.specs.Lists.{entries, broken, listed}
 use Rattle.address.specs.Multiaddr.{parsed, longest4, longest6}
 use Rattle.address.specs.declared.Ip.{Ip}
-use Rattle.address.specs.declared.Parsed.TheVariants.{Address}
 use Rattle.candidates.specs.Entries.{of_address, in_family, has_ip, longer_than}
 use Rattle.candidates.specs.Selection.{usual, longest_of, most_bytes}
 use Rattle.candidates.specs.declared.Limits.{Limits}
@@ -36,7 +35,7 @@ LimitMet l kept ip port =
 -- a wanted address stands right behind what is kept of those before it, or those meet a limit
 abbrev pub DropsOnlyAtLimits : Limits → (List (List ℕ) → List (List ℕ)) → (List (List ℕ) → List ℕ → Bool) → Type 0
 DropsOnlyAtLimits l keeps wanted =
-    (before after : List (List ℕ)) (a : List ℕ) (ip : Ip) (port : ℕ) → parsed a ≡ Address ip port → wanted before a ≡ true
+    (before after : List (List ℕ)) (a : List ℕ) (ip : Ip) (port : ℕ) → parsed a ≡ Some (ip, port) → wanted before a ≡ true
     → ((rest : List (List ℕ)) × (keeps (before ++ (a ∷ after)) ≡ keeps before ++ (a ∷ rest))) ⊎ LimitMet l (keeps before) ip port
 
 -- each is no longer than its family's longest; so no more of them than a family's limit are longer than an IPv4 address, and none is

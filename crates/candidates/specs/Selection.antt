@@ -1,10 +1,9 @@
 -- Which addresses are kept (RULES.md, section 7).
-use Rattle.std.specs.Prelude.{ℕ, ◌+◌, ◌*◌, Bool, leb, ltb, length}
+use Rattle.std.specs.Prelude.{ℕ, ◌+◌, ◌*◌, Bool, leb, ltb, length, Err, Ok}
 use mathlib.Core.List.{List, [], ◌∷◌, ◌++◌, foldl}
 use Rattle.prelude.specs.Lists.{padded, count, such}
 use Rattle.prelude.specs.Choice.{pick, both}
 use Rattle.refusal.specs.declared.Refusal.TheVariants.{BrokenList}
-use Rattle.vocabulary.specs.declared.Outcome.TheVariants.{Accepted, Refused}
 use Rattle.wire.specs.Lists.{broken, listed}
 use Rattle.address.specs.Multiaddr.{longest4, longest6}
 use Rattle.address.specs.Words.{may_be_target}
@@ -96,5 +95,5 @@ packed s = record { bytes = padded capacity 0 s; len = length s }
 -- the answer for a list s of which xs are kept
 unfoldable pub answered : List ℕ → List (List ℕ) → Selection
 answered s xs =
-    pick (broken s) (record { outcome = Refused BrokenList; chosen = packed [] })
-    (record { outcome = Accepted; chosen = packed (listed xs) })
+    pick (broken s) (record { outcome = Err BrokenList; chosen = packed [] })
+    (record { outcome = Ok tt; chosen = packed (listed xs) })

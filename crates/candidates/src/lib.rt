@@ -5,19 +5,17 @@
 ghost use Rattle.std.specs.Prelude.{◌≡◌, ℕ, ◌<◌, ◌≤◌, ◌^◌};
 ghost use mathlib.Core.List.{List, [], foldl};
 ghost use Rattle.prelude.specs.Lists.{count};
-ghost use Rattle.prelude.specs.Choice.{no, bit};
+ghost use Rattle.prelude.specs.Choice.{no};
 ghost use Rattle.wire.specs.Lists.{entries, listed};
-ghost use Rattle.candidates.specs.Entries.{same_family, same_ip, same_bytes, contains};
+ghost use Rattle.candidates.specs.Entries.{same_family, same_bytes, contains};
 ghost use Rattle.candidates.specs.Selection.{usual, usually, most, held, held_terms, counted, room_for, bounded, punchable, selected, own, packed, answered};
 ghost use Rattle.candidates.specs.OnePass.{tallied, suits, wanted_from, kept_from};
 ghost use Rattle.candidates.specs.Laws.{AllPass, KeepsLimits, DropsOnlyAtLimits, Short, IsListOf, UsualNumbers};
 ghost use Rattle.candidates.specs.declared.Limits.{Limits};
 ghost use Rattle.candidates.specs.declared.Terms.{Terms};
 
-use address::{Ip, Parsed};
+use address::Ip;
 use refusal::Refusal;
-use vocabulary::Outcome;
-use wire::Entry;
 
 // The usual limits: the most candidates that are kept, in all, of a family and of an IP; and the lowest port.
 pub const MAX_PUNCH_CANDIDATES: usize = 8;
@@ -44,7 +42,7 @@ pub struct Chosen {
 // A refused list has nothing chosen.
 #[derive(Clone, Copy)]
 pub struct Selection {
-    pub outcome: Outcome,
+    pub outcome: Result<(), Refusal>,
     pub chosen: Chosen,
 }
 
@@ -82,45 +80,10 @@ pub enum Source {
 fn same_family(a: Ip, b: Ip) -> bool
     ensures { result ≡ same_family a b }
 {
-    match a {
-        Ip::V4(_) => match b {
-            Ip::V4(_) => true,
-            Ip::V6(_, _) => false,
-        },
-        Ip::V6(_, _) => match b {
-            Ip::V4(_) => false,
-            Ip::V6(_, _) => true,
-        },
-    }
-}
-
-fn same_ip(a: Ip, b: Ip) -> bool
-    ensures { result ≡ same_ip a b }
-{
-    match a {
-        Ip::V4(x) => match b {
-            Ip::V4(y) => x == y,
-            Ip::V6(_, _) => false,
-        },
-        Ip::V6(h, l) => match b {
-            Ip::V4(_) => false,
-            Ip::V6(g, k) => {
-                if h == g {
-                    return l == k;
-                }
-                false
-            }
-        },
-    }
-}
-
-fn one_if(b: bool) -> usize
-    ensures { result ≡ bit b }
-{
-    if b {
-        return 1;
-    }
-    0
+    matches!(
+        (a, b),
+        (Ip::V4(_), Ip::V4(_)) | (Ip::V6(_, _), Ip::V6(_, _))
+    )
 }
 
 // One address more is counted.
@@ -128,16 +91,13 @@ fn tally(n: Counts, ip: Ip, a: &[u8]) -> Counts
     requires { (n.total < 2 ^ 63) × ((n.family < 2 ^ 63) × (n.ip < 2 ^ 63)) }
     ensures { result ≡ tallied ip n a.now }
 {
+    let total = n.total + 1;
     match address::parse(a) {
-        Parsed::Other => Counts {
-            total: n.total + 1,
-            family: n.family,
-            ip: n.ip,
-        },
-        Parsed::Address { ip: other, port: _ } => Counts {
-            total: n.total + 1,
-            family: n.family + one_if(same_family(ip, other)),
-            ip: n.ip + one_if(same_ip(ip, other)),
+        None => Counts { total, ..n },
+        Some((other, _)) => Counts {
+            total,
+            family: n.family + usize::from(same_family(ip, other)),
+            ip: n.ip + usize::from(ip == other),
         },
     }
 }
@@ -151,44 +111,17 @@ fn tally_all(list: &[u8], ip: Ip) -> Counts
         family: 0,
         ip: 0,
     };
-    let mut at: usize = 0;
-    loop {
-        let e = wire::entry_at(list, at);
-        match e {
-            Entry::End => return n,
-            Entry::Broken => return n,
-            Entry::Address { start, end } => {
-                n = tally(n, ip, &list[start..end]);
-                at = end;
-            }
-        }
+    for a in wire::entries(list) {
+        n = tally(n, ip, a);
     }
-}
-
-fn same_bytes(a: &[u8], b: &[u8]) -> bool
-    ensures { result ≡ same_bytes a.now b.now }
-{
-    check::same(a, b)
+    n
 }
 
 // Whether a list has an address of the same bytes.
 fn holds(list: &[u8], a: &[u8]) -> bool
     ensures { result ≡ contains a.now (entries list.now) }
 {
-    let mut at: usize = 0;
-    loop {
-        let e = wire::entry_at(list, at);
-        match e {
-            Entry::End => return false,
-            Entry::Broken => return false,
-            Entry::Address { start, end } => {
-                if same_bytes(a, &list[start..end]) {
-                    return true;
-                }
-                at = end;
-            }
-        }
-    }
+    wire::entries(list).any(|x| a == x)
 }
 
 impl Limits {
@@ -207,11 +140,8 @@ impl Limits {
     fn held(self) -> Self
         ensures { result ≡ held self }
     {
-        if self.total <= MAX_PUNCH_CANDIDATES {
-            return self;
-        }
         Limits {
-            total: MAX_PUNCH_CANDIDATES,
+            total: self.total.min(MAX_PUNCH_CANDIDATES),
             ..self
         }
     }
@@ -220,16 +150,7 @@ impl Limits {
     fn room_for(self, n: Counts, port: u16) -> bool
         ensures { result ≡ room_for self n port }
     {
-        if port < self.port {
-            return false;
-        }
-        if self.total <= n.total {
-            return false;
-        }
-        if self.family <= n.family {
-            return false;
-        }
-        n.ip < self.ip
+        self.port <= port && n.total < self.total && n.family < self.family && n.ip < self.ip
     }
 }
 
@@ -238,8 +159,10 @@ impl Terms {
     pub fn usual(private: bool) -> Self
         ensures { result ≡ usually private }
     {
-        let limits = Limits::usual();
-        Terms { limits, private }
+        Terms {
+            limits: Limits::usual(),
+            private,
+        }
     }
 }
 
@@ -259,13 +182,9 @@ fn wanted(l: Limits, source: Source, kept: &[u8], a: &[u8]) -> bool
     ensures { result ≡ wanted_from l source (entries kept.now) a.now }
 {
     match address::parse(a) {
-        Parsed::Other => false,
-        Parsed::Address { ip, port } => {
-            if suits_source(source, kept, a, ip) {
-                let n = tally_all(kept, ip);
-                return l.room_for(n, port);
-            }
-            false
+        None => false,
+        Some((ip, port)) => {
+            suits_source(source, kept, a, ip) && l.room_for(tally_all(kept, ip), port)
         }
     }
 }
@@ -286,40 +205,28 @@ fn choose(l: Limits, list: &[u8], source: Source) -> Chosen
     requires { l.total ≤ most }
     ensures { result ≡ packed (listed (foldl (kept_from l source) [] (entries list.now))) }
 {
-    let none = Chosen::empty();
-    let mut bytes = none.bytes;
-    let mut len: usize = 0;
-    let mut at: usize = 0;
-    loop {
-        let e = wire::entry_at(list, at);
-        match e {
-            Entry::End => return Chosen { bytes, len },
-            Entry::Broken => return Chosen { bytes, len },
-            Entry::Address { start, end } => {
-                if wanted(l, source, &bytes[..len], &list[start..end]) {
-                    wire::put_entry(&list[start..end], &mut bytes, len);
-                    len = len + 2 + (end - start);
-                }
-                at = end;
-            }
+    let Chosen { mut bytes, mut len } = Chosen::empty();
+    for a in wire::entries(list) {
+        if wanted(l, source, &bytes[..len], a) {
+            wire::put_entry(a, &mut bytes, len);
+            len += LENGTH_SIZE + a.len();
         }
     }
+    Chosen { bytes, len }
 }
 
 fn chosen_from(l: Limits, list: &[u8], source: Source) -> Selection
     ensures { result ≡ answered list.now (foldl (kept_from (held l) source) [] (entries list.now)) }
 {
     if wire::is_broken(list) {
-        let chosen = Chosen::empty();
         return Selection {
-            outcome: Outcome::Refused(Refusal::BrokenList),
-            chosen,
+            outcome: Err(Refusal::BrokenList),
+            chosen: Chosen::empty(),
         };
     }
-    let chosen = choose(l.held(), list, source);
     Selection {
-        outcome: Outcome::Accepted,
-        chosen,
+        outcome: Ok(()),
+        chosen: choose(l.held(), list, source),
     }
 }
 
@@ -327,8 +234,7 @@ fn chosen_from(l: Limits, list: &[u8], source: Source) -> Selection
 pub fn select_punch_candidates(list: &[u8], terms: Terms) -> Selection
     ensures { result ≡ answered list.now (selected (held_terms terms) (entries list.now)) }
 {
-    let limits = terms.limits;
-    let private = terms.private;
+    let Terms { limits, private } = terms;
     chosen_from(limits, list, Source::Peer { private })
 }
 

@@ -1,5 +1,5 @@
 -- What becomes of the bytes and of the ledger where a decision is carried out (RULES.md, sections 11.2 and 11.4).
-use Rattle.std.specs.Prelude.{ℕ, Bool, true, false, List, []}
+use Rattle.std.specs.Prelude.{ℕ, Bool, true, false, List, [], None, Option, Some}
 use Rattle.prelude.specs.Choice.{pick}
 use Rattle.ids.specs.declared.PeerId.{PeerId}
 use Rattle.candidates.specs.declared.Chosen.{Chosen}
@@ -9,7 +9,7 @@ use Rattle.frames.specs.declared.Framed.{Framed}
 use Rattle.frames.specs.Sent.{packed, sync_frame, own_connect}
 use Rattle.ledger.specs.Ledger.{PathLedger, end_punches, expect_punches}
 use Rattle.vocabulary.specs.declared.Effect.{Effect}
-use Rattle.vocabulary.specs.declared.Effect.TheVariants.{Nothing, Path, Burst, Upgrade, Close, Send, Reset, Open}
+use Rattle.vocabulary.specs.declared.Effect.TheVariants.{Path, Burst, Upgrade, Close, Send, Reset, Open}
 use Rattle.circuit.specs.declared.state.Core.{Core}
 use Rattle.circuit.specs.declared.decision.Fate.{Fate}
 use Rattle.circuit.specs.declared.decision.Fate.TheVariants.{Kept, Removed, Opened}
@@ -18,16 +18,16 @@ use Rattle.circuit.specs.declared.decision.Message.TheVariants as message
 use Rattle.circuit.specs.declared.decision.Decision.{Decision}
 
 -- the message that goes out, where the round's CONNECT has these bytes
-unfoldable pub message_of : List ℕ → Message → Framed
-message_of connect message.None = packed []
-message_of connect (message.Connect n) = record { bytes = connect; len = n }
-message_of connect message.Sync = sync_frame
+unfoldable pub message_of : List ℕ → Option Message → Framed
+message_of connect None = packed []
+message_of connect (Some (message.Connect n)) = record { bytes = connect; len = n }
+message_of connect (Some message.Sync) = sync_frame
 
 -- the bytes lent for it; without a message they stay
-unfoldable pub sent_after : List ℕ → List ℕ → Message → List ℕ
-sent_after connect sent message.None = sent
-sent_after connect sent (message.Connect n) = connect
-sent_after connect sent message.Sync = sync_frame.bytes
+unfoldable pub sent_after : List ℕ → List ℕ → Option Message → List ℕ
+sent_after connect sent None = sent
+sent_after connect sent (Some (message.Connect n)) = connect
+sent_after connect sent (Some message.Sync) = sync_frame.bytes
 
 -- the source's ledger window (section 10.3)
 unfoldable pub ledger_after : PeerId → PathLedger → Fate → PathLedger
@@ -35,18 +35,18 @@ ledger_after source l Kept = l
 ledger_after source l Removed = end_punches l source
 ledger_after source l (Opened until) = (expect_punches l source until).ledger
 
-unfoldable pub opens : Effect → Bool
-opens Nothing = false
-opens (Path peer relay conn) = false
-opens (Burst times payload) = false
-opens (Upgrade peer old new) = false
-opens (Close conn) = false
-opens (Send conn stream) = false
-opens (Reset conn stream) = false
-opens (Open conn stream) = true
+unfoldable pub opens : Option Effect → Bool
+opens None = false
+opens (Some (Path peer relay conn)) = false
+opens (Some (Burst times payload)) = false
+opens (Some (Upgrade peer old new)) = false
+opens (Some (Close conn)) = false
+opens (Some (Send conn stream)) = false
+opens (Some (Reset conn stream)) = false
+opens (Some (Open conn stream)) = true
 
 -- a round that opens gets the CONNECT with the candidates of the own list
-unfoldable pub connect_after : Terms → List ℕ → List ℕ → Effect → List ℕ
+unfoldable pub connect_after : Terms → List ℕ → List ℕ → Option Effect → List ℕ
 connect_after t own connect fourth = pick (opens fourth) (own_connect t.limits own).bytes connect
 
 abbrev pub with_connect : Core → ℕ → Core

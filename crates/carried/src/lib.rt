@@ -19,25 +19,18 @@ use vocabulary::Effect;
 // The bytes of the punch window's targets.
 pub type TargetBytes = [u8; candidates::CAPACITY];
 
-pub fn copy_frame(frame: &FrameBytes, sent: &mut FrameBytes)
-    ensures { sent.new ≡ frame.now }
-{
-    frames::known(frame);
-    frames::known(sent);
-    wire::put_bytes(frame, sent, 0);
-}
-
 // The message, as bytes for the host.
-fn send(message: Message, connect: &FrameBytes, sent: &mut FrameBytes)
+#[tactic(auto, unfolding(crate::specs::Carried::sent_after))]
+fn send(message: Option<Message>, connect: &FrameBytes, sent: &mut FrameBytes)
     ensures { sent.new ≡ sent_after connect.now sent.old message }
 {
     match message {
-        Message::None => {}
-        Message::Connect(_) => copy_frame(connect, sent),
-        Message::Sync => {
+        None => {}
+        Some(Message::Connect(_)) => *sent = *connect,
+        Some(Message::Sync) => {
             let sync = frames::sync_frame();
             let bytes = sync.bytes;
-            copy_frame(&bytes, sent)
+            *sent = bytes;
         }
     }
 }
@@ -50,24 +43,17 @@ fn settle_window(ledger: &mut Ledger, source: PeerId, window: Fate)
         Fate::Kept => rows::known(ledger),
         Fate::Removed => ledger::end_punches(ledger, source),
         Fate::Opened(until) => {
-            ledger::expect_punches(ledger, source, until);
+            // The call was refused before, where the ledger has no room.
+            let _ = ledger::expect_punches(ledger, source, until);
         }
     }
 }
 
-fn is_open(effect: Effect) -> bool
+#[tactic(auto, unfolding(crate::specs::Carried::opens))]
+fn is_open(effect: Option<Effect>) -> bool
     ensures { result ≡ opens effect }
 {
-    match effect {
-        Effect::Open { .. } => true,
-        Effect::Nothing => false,
-        Effect::Path { .. } => false,
-        Effect::Burst { .. } => false,
-        Effect::Upgrade { .. } => false,
-        Effect::Close { .. } => false,
-        Effect::Send { .. } => false,
-        Effect::Reset { .. } => false,
-    }
+    matches!(effect, Some(Effect::Open { .. }))
 }
 
 // Where a round opens its CONNECT is written: the candidates of the own list.
@@ -75,22 +61,21 @@ fn write_connect(d: Decision, terms: Terms, own: &[u8], connect: &mut FrameBytes
     ensures answer { result ≡ framed_by terms own.now d }
     ensures connect { connect.new ≡ connect_after terms own.now connect.old d.fourth }
 {
-    let fourth = d.fourth;
-    if is_open(fourth) {
+    if is_open(d.fourth) {
         let framed = frames::own_connect(own, terms.limits);
         let bytes = framed.bytes;
-        copy_frame(&bytes, connect);
-        let core = d.core;
-        let c = Core {
+        *connect = bytes;
+        let core = Core {
             connect: framed.len,
-            ..core
+            ..d.core
         };
-        return Decision { core: c, ..d };
+        return Decision { core, ..d };
     }
     d
 }
 
 // The message goes out before a round that opens writes its own CONNECT.
+#[tactic(auto, unfolding(crate::specs::Carried::framed_by, crate::specs::Carried::connect_after, crate::specs::Carried::sent_after, crate::specs::Carried::ledger_after, ledger::specs::Ledger::laid))]
 pub fn carry_out(
     d: Decision,
     source: PeerId,
@@ -106,37 +91,18 @@ pub fn carry_out(
     ensures tables { tables_of ledger.new ≡ ledger_after source (tables_of ledger.old) d.window }
     ensures words { ledger.new ≡ laid (ledger_after source (tables_of ledger.old) d.window) ledger.old }
 {
-    let message = d.message;
-    let window = d.window;
-    send(message, connect, sent);
-    settle_window(ledger, source, window);
+    send(d.message, connect, sent);
+    settle_window(ledger, source, d.window);
     write_connect(d, terms, own, connect)
 }
 
-fn targets_known(targets: &TargetBytes)
-    ensures { length targets.now ≡ capacity }
-{
-    frames::size(targets);
-}
-
-pub fn copy_targets(from: &TargetBytes, targets: &mut TargetBytes)
-    ensures { targets.new ≡ from.now }
-{
-    targets_known(from);
-    targets_known(targets);
-    wire::put_bytes(from, targets, 0);
-}
-
 // Where a window opens the reply's targets are its own.
+#[tactic(auto, unfolding(crate::specs::Carried::targets_after))]
 pub fn take_targets(window: Fate, chosen: Chosen, targets: &mut TargetBytes)
     ensures { targets.new ≡ targets_after targets.old chosen window }
 {
-    match window {
-        Fate::Kept => {}
-        Fate::Removed => {}
-        Fate::Opened(_) => {
-            let bytes = chosen.bytes;
-            copy_targets(&bytes, targets)
-        }
+    if let Fate::Opened(_) = window {
+        let bytes = chosen.bytes;
+        *targets = bytes;
     }
 }

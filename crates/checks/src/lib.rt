@@ -5,46 +5,37 @@ ghost use Rattle.std.specs.Prelude.{◌≡◌};
 ghost use Rattle.checks.specs.Refusals.{in_use, check_of};
 
 use circuit::state::Phase;
+use ids::{ConnectionId, StreamId};
 use refusal::Refusal;
-use vocabulary::{Offer, Outcome};
 
 // Whether the offered stream is the one that an exchange runs on.
-fn offer_in_use(phase: Phase, offer: Offer) -> bool
+#[tactic(auto, unfolding(crate::specs::Refusals::in_use))]
+fn offer_in_use(phase: Phase, offer: Option<(ConnectionId, StreamId)>) -> bool
     ensures { result ≡ in_use phase offer }
 {
     match phase {
         Phase::Exchange { conn, stream, .. } => match offer {
-            Offer::Stream(other, on) => {
-                if conn.0 != other.0 {
-                    return false;
-                }
-                return stream.0 == on.0;
-            }
-            Offer::Nothing => {
-                return false;
-            }
+            Some((at, on)) => conn == at && stream == on,
+            None => false,
         },
-        Phase::Handshaking { .. } => {
-            return false;
-        }
-        Phase::Punching { .. } => {
-            return false;
-        }
-        Phase::Done { .. } => {
-            return false;
-        }
+        _ => false,
     }
 }
 
 // A broken own list comes before a stream in use.
-pub fn checked(phase: Phase, offer: Offer, own: &[u8]) -> Outcome
+#[tactic(auto, unfolding(crate::specs::Refusals::check_of))]
+pub fn checked(
+    phase: Phase,
+    offer: Option<(ConnectionId, StreamId)>,
+    own: &[u8],
+) -> Result<(), Refusal>
     ensures { result ≡ check_of phase offer own.now }
 {
     if wire::is_broken(own) {
-        return Outcome::Refused(Refusal::BrokenList);
+        return Err(Refusal::BrokenList);
     }
     if offer_in_use(phase, offer) {
-        return Outcome::Refused(Refusal::OfferInUse);
+        return Err(Refusal::OfferInUse);
     }
-    Outcome::Accepted
+    Ok(())
 }

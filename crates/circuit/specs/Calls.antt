@@ -1,5 +1,5 @@
 -- The calls that touch no bytes (RULES.md, sections 11.3 and 11.8), and what a refused call decides.
-use Rattle.std.specs.Prelude.{ℕ, ◌+◌, false, ltb, eqb}
+use Rattle.std.specs.Prelude.{ℕ, ◌+◌, false, ltb, eqb, Err, Ok, Result, ⊤}
 use Rattle.prelude.specs.Choice.{pick, both, no}
 use Rattle.time.specs.Time.{last}
 use Rattle.ids.specs.declared.ConnectionId.{ConnectionId}
@@ -8,8 +8,6 @@ use Rattle.ids.specs.declared.PeerId.{PeerId}
 use Rattle.refusal.specs.declared.Refusal.TheVariants.{HandshakeTooLate}
 use Rattle.budget.specs.Budget.{armed}
 use Rattle.vocabulary.specs.declared.Settings.{Settings}
-use Rattle.vocabulary.specs.declared.Outcome.{Outcome}
-use Rattle.vocabulary.specs.declared.Outcome.TheVariants.{Accepted, Refused}
 use Rattle.circuit.specs.declared.state.Core.{Core}
 use Rattle.circuit.specs.declared.state.Phase.{Phase}
 use Rattle.circuit.specs.declared.state.Phase.TheVariants.{Handshaking, Exchange, Punching, Done}
@@ -18,6 +16,7 @@ use Rattle.circuit.specs.declared.state.ConnectWrite.TheVariants.{Unsent, Held, 
 use Rattle.circuit.specs.declared.decision.Decision.{Decision}
 use Rattle.circuit.specs.State.{in_phase, done_of, is_done}
 use Rattle.circuit.specs.Decisions.{quiet_of, refused_of}
+use Rattle.refusal.specs.declared.Refusal.{Refusal}
 
 -- ---- start (section 11.3)
 
@@ -64,6 +63,6 @@ down_of c conn = quiet_of (pick (both (eqb conn.0 c.circuit.0) (no (is_done c.ph
 -- ---- refused
 
 -- a call that is refused changes nothing
-abbrev pub unless : Core → Decision → Outcome → Decision
-unless c d Accepted = d
-unless c d (Refused why) = refused_of c why
+abbrev pub unless : Core → Decision → Result ⊤ Refusal → Decision
+unless c d (Ok tt) = d
+unless c d (Err why) = refused_of c why

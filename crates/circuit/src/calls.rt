@@ -4,12 +4,12 @@ ghost use Rattle.circuit.specs.Calls.{begun_of, started_of, wrote_at, wrote_of, 
 
 use crate::decision::Decision;
 use crate::state::{ConnectWrite, Core, Phase};
-use crate::{decision, state};
 use budget::UpgradeBudget;
 use ids::{ConnectionId, PeerId, StreamId};
 use refusal::Refusal;
 use vocabulary::Settings;
 
+#[tactic(auto, unfolding(crate::specs::Calls::begun_of))]
 fn begun(
     source: PeerId,
     relay: PeerId,
@@ -19,14 +19,13 @@ fn begun(
 ) -> Core
     ensures { result ≡ begun_of source relay circuit settings phase }
 {
-    let budget = UpgradeBudget::arm(0, settings.upgrade, settings.exchange, settings.punch);
     Core {
-        source: source,
-        relay: relay,
-        circuit: circuit,
-        settings: settings,
-        phase: phase,
-        budget: budget,
+        source,
+        relay,
+        circuit,
+        settings,
+        phase,
+        budget: UpgradeBudget::arm(0, settings.upgrade, settings.exchange, settings.punch),
         connect: 0,
         targets: 0,
     }
@@ -36,52 +35,25 @@ fn begun(
 fn written(c: Core, at: u64, conn: ConnectionId, stream: StreamId) -> Core
     ensures { result ≡ wrote_at c at conn stream c.phase }
 {
-    let phase = c.phase;
-    match phase {
+    match c.phase {
         Phase::Exchange {
             conn: on,
             stream: running,
             count,
-            connect,
-        } => {
-            if on.0 != conn.0 {
-                return c;
-            }
-            if running.0 != stream.0 {
-                return c;
-            }
-            match connect {
-                ConnectWrite::Held => {
-                    let sent = Phase::Exchange {
-                        conn: on,
-                        stream: running,
-                        count: count,
-                        connect: ConnectWrite::Sent { at: at },
-                    };
-                    return state::with_phase(c, sent);
-                }
-                ConnectWrite::Unsent => {
-                    return c;
-                }
-                ConnectWrite::Sent { .. } => {
-                    return c;
-                }
-            }
-        }
-        Phase::Handshaking { .. } => {
-            return c;
-        }
-        Phase::Punching { .. } => {
-            return c;
-        }
-        Phase::Done { .. } => {
-            return c;
-        }
+            connect: ConnectWrite::Held,
+        } if on == conn && running == stream => c.with_phase(Phase::Exchange {
+            conn,
+            stream,
+            count,
+            connect: ConnectWrite::Sent { at },
+        }),
+        _ => c,
     }
 }
 
 impl Core {
     // A circuit that begins, or why it does not; a refused one is Done.
+    #[tactic(auto, unfolding(crate::specs::Calls::started_of))]
     pub fn new(
         source: PeerId,
         relay: PeerId,
@@ -92,39 +64,33 @@ impl Core {
         ensures { result ≡ started_of source relay circuit settings at }
     {
         if time::LAST - at < settings.handshake {
-            let done = begun(
-                source,
-                relay,
-                circuit,
-                settings,
-                Phase::Done { promoted: false },
+            let done = Phase::Done { promoted: false };
+            return Decision::refused(
+                begun(source, relay, circuit, settings, done),
+                Refusal::HandshakeTooLate,
             );
-            return decision::refused(done, Refusal::HandshakeTooLate);
         }
         let phase = Phase::Handshaking {
             deadline: at + settings.handshake,
         };
-        decision::quiet(begun(source, relay, circuit, settings, phase))
+        Decision::quiet(begun(source, relay, circuit, settings, phase))
     }
 
+    #[tactic(auto, unfolding(crate::specs::Calls::wrote_of))]
     pub fn on_write_completed(self, at: u64, conn: ConnectionId, stream: StreamId) -> Decision
         ensures { result ≡ wrote_of self at conn stream }
     {
-        decision::quiet(written(self, at, conn, stream))
+        Decision::quiet(written(self, at, conn, stream))
     }
 
     // The circuit's connection is gone; whose it was plays no part.
+    #[tactic(auto, unfolding(crate::specs::Calls::down_of))]
     pub fn on_connection_closed(self, conn: ConnectionId) -> Decision
         ensures { result ≡ down_of self conn }
     {
-        let circuit = self.circuit;
-        let phase = self.phase;
-        if conn.0 != circuit.0 {
-            return decision::quiet(self);
+        if conn == self.circuit && !self.phase.is_done() {
+            return Decision::quiet(self.finish());
         }
-        if state::is_done(phase) {
-            return decision::quiet(self);
-        }
-        decision::quiet(state::finish(self))
+        Decision::quiet(self)
     }
 }

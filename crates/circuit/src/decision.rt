@@ -6,7 +6,7 @@ ghost use Rattle.circuit.specs.Decisions.{length_of};
 use crate::state::Core;
 use ids::{ConnectionId, StreamId};
 use refusal::Refusal;
-use vocabulary::{Effect, Outcome};
+use vocabulary::Effect;
 
 // The source's ledger window is as it was, is removed, or is opened or extended to a time.
 #[derive(Clone, Copy)]
@@ -19,7 +19,6 @@ pub enum Fate {
 // The message that goes out, if one does: CONNECT has so many bytes.
 #[derive(Clone, Copy)]
 pub enum Message {
-    None,
     Connect(usize),
     Sync,
 }
@@ -27,10 +26,10 @@ pub enum Message {
 // What a call says before it is known whether a round opens: the first three effects, and the message.
 #[derive(Clone, Copy)]
 pub struct Said {
-    pub first: Effect,
-    pub second: Effect,
-    pub third: Effect,
-    pub message: Message,
+    pub first: Option<Effect>,
+    pub second: Option<Effect>,
+    pub third: Option<Effect>,
+    pub message: Option<Message>,
 }
 
 // The effects in order: a path, burst, upgrade or close; then a send, a reset, an open. `took` is whether the circuit took an established
@@ -38,151 +37,120 @@ pub struct Said {
 #[derive(Clone, Copy)]
 pub struct Decision {
     pub core: Core,
-    pub outcome: Outcome,
+    pub outcome: Result<(), Refusal>,
     pub took: bool,
     pub window: Fate,
-    pub first: Effect,
-    pub second: Effect,
-    pub third: Effect,
-    pub fourth: Effect,
-    pub message: Message,
+    pub first: Option<Effect>,
+    pub second: Option<Effect>,
+    pub third: Option<Effect>,
+    pub fourth: Option<Effect>,
+    pub message: Option<Message>,
 }
 
-// No message: an effect in the first place, and a reset.
-pub fn event(first: Effect, third: Effect) -> Said
-    ensures { result ≡ event_of first third }
-{
-    Said {
-        first: first,
-        second: Effect::Nothing,
-        third: third,
-        message: Message::None,
+impl Said {
+    // No message: an effect in the first place, and a reset.
+    #[tactic(auto, unfolding(crate::specs::Decisions::event_of))]
+    pub fn event(first: Option<Effect>, third: Option<Effect>) -> Self
+        ensures { result ≡ event_of first third }
+    {
+        Said {
+            first,
+            second: None,
+            third,
+            message: None,
+        }
+    }
+
+    #[tactic(auto, unfolding(crate::specs::Decisions::silence))]
+    pub fn silent() -> Self
+        ensures { result ≡ silence }
+    {
+        Said::event(None, None)
+    }
+
+    #[tactic(auto, unfolding(crate::specs::Decisions::reset_of))]
+    pub fn reset(conn: ConnectionId, stream: StreamId) -> Self
+        ensures { result ≡ reset_of conn stream }
+    {
+        Said::event(None, Some(Effect::Reset { conn, stream }))
+    }
+
+    // The targets once for each of so many instants; nothing where either is empty.
+    #[tactic(auto, unfolding(crate::specs::Decisions::burst_of))]
+    pub fn burst(times: u64, payload: u64, targets: usize) -> Self
+        ensures { result ≡ burst_of times payload targets }
+    {
+        if times == 0 || targets == 0 {
+            return Said::silent();
+        }
+        Said::event(Some(Effect::Burst { times, payload }), None)
+    }
+
+    // A message goes out on the stream behind what was said; the stream is reset where the exchange is over.
+    #[tactic(auto, unfolding(crate::specs::Decisions::sending_of))]
+    pub fn sending(
+        self,
+        conn: ConnectionId,
+        stream: StreamId,
+        message: Option<Message>,
+        over: bool,
+    ) -> Self
+        ensures { result ≡ sending_of self conn stream message over }
+    {
+        let reset = Effect::Reset { conn, stream };
+        Said {
+            first: self.first,
+            second: Some(Effect::Send { conn, stream }),
+            third: if over { Some(reset) } else { None },
+            message,
+        }
     }
 }
 
-pub fn silent() -> Said
-    ensures { result ≡ silence }
-{
-    event(Effect::Nothing, Effect::Nothing)
-}
-
-pub fn reset(conn: ConnectionId, stream: StreamId) -> Said
-    ensures { result ≡ reset_of conn stream }
-{
-    event(
-        Effect::Nothing,
-        Effect::Reset {
-            conn: conn,
-            stream: stream,
-        },
-    )
-}
-
-// The targets once for each of so many instants; nothing where either is empty.
-pub fn burst(times: u64, payload: u64, targets: usize) -> Said
-    ensures { result ≡ burst_of times payload targets }
-{
-    if times == 0 {
-        return silent();
+impl Decision {
+    #[tactic(auto, unfolding(crate::specs::Decisions::decided_of))]
+    pub fn decided(core: Core, window: Fate, said: Said, fourth: Option<Effect>) -> Self
+        ensures { result ≡ decided_of core window said fourth }
+    {
+        Decision {
+            core,
+            outcome: Ok(()),
+            took: false,
+            window,
+            first: said.first,
+            second: said.second,
+            third: said.third,
+            fourth,
+            message: said.message,
+        }
     }
-    if targets == 0 {
-        return silent();
-    }
-    event(
-        Effect::Burst {
-            times: times,
-            payload: payload,
-        },
-        Effect::Nothing,
-    )
-}
 
-// A message goes out on the stream behind what was said; the stream is reset where the exchange is over.
-pub fn sending(
-    said: Said,
-    conn: ConnectionId,
-    stream: StreamId,
-    message: Message,
-    over: bool,
-) -> Said
-    ensures { result ≡ sending_of said conn stream message over }
-{
-    let first = said.first;
-    let send = Effect::Send {
-        conn: conn,
-        stream: stream,
-    };
-    if over {
-        return Said {
-            first: first,
-            second: send,
-            third: Effect::Reset {
-                conn: conn,
-                stream: stream,
-            },
-            message: message,
-        };
+    #[tactic(auto, unfolding(crate::specs::Decisions::quiet_of))]
+    pub fn quiet(core: Core) -> Self
+        ensures { result ≡ quiet_of core }
+    {
+        Decision::decided(core, Fate::Kept, Said::silent(), None)
     }
-    Said {
-        first: first,
-        second: send,
-        third: Effect::Nothing,
-        message: message,
-    }
-}
 
-pub fn decided(core: Core, window: Fate, said: Said, fourth: Effect) -> Decision
-    ensures { result ≡ decided_of core window said fourth }
-{
-    let first = said.first;
-    let second = said.second;
-    let third = said.third;
-    let message = said.message;
-    Decision {
-        core: core,
-        outcome: Outcome::Accepted,
-        took: false,
-        window: window,
-        first: first,
-        second: second,
-        third: third,
-        fourth: fourth,
-        message: message,
-    }
-}
-
-pub fn quiet(core: Core) -> Decision
-    ensures { result ≡ quiet_of core }
-{
-    decided(core, Fate::Kept, silent(), Effect::Nothing)
-}
-
-pub fn refused(core: Core, why: Refusal) -> Decision
-    ensures { result ≡ refused_of core why }
-{
-    Decision {
-        core: core,
-        outcome: Outcome::Refused(why),
-        took: false,
-        window: Fate::Kept,
-        first: Effect::Nothing,
-        second: Effect::Nothing,
-        third: Effect::Nothing,
-        fourth: Effect::Nothing,
-        message: Message::None,
+    #[tactic(auto, unfolding(crate::specs::Decisions::refused_of, crate::specs::Decisions::quiet_of, crate::specs::Decisions::decided_of, crate::specs::Decisions::silence, crate::specs::Decisions::event_of))]
+    pub fn refused(core: Core, why: Refusal) -> Self
+        ensures { result ≡ refused_of core why }
+    {
+        Decision {
+            outcome: Err(why),
+            ..Decision::quiet(core)
+        }
     }
 }
 
 // How many bytes go out.
-pub fn message_size(message: Message) -> usize
+#[tactic(auto, unfolding(crate::specs::Decisions::length_of))]
+pub fn message_size(message: Option<Message>) -> usize
     ensures { result ≡ length_of message }
 {
     match message {
-        Message::None => 0,
-        Message::Connect(n) => n,
-        Message::Sync => {
-            let sync = frames::sync_frame();
-            sync.len
-        }
+        None => 0,
+        Some(Message::Connect(n)) => n,
+        Some(Message::Sync) => frames::sync_frame().len,
     }
 }

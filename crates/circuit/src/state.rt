@@ -60,63 +60,62 @@ pub fn terms(settings: Settings) -> Terms
     Terms::usual(settings.private)
 }
 
-pub fn with_phase(c: Core, phase: Phase) -> Core
-    ensures { result ≡ in_phase c phase }
-{
-    Core { phase: phase, ..c }
-}
-
-pub fn finish(c: Core) -> Core
-    ensures { result ≡ done_of c }
-{
-    with_phase(c, Phase::Done { promoted: true })
-}
-
-// The exchange of a round that began; its CONNECT is written by the call that opens it.
-pub fn exchanging(c: Core, budget: UpgradeBudget, conn: ConnectionId, stream: StreamId) -> Core
-    ensures { result ≡ exchanging_of c budget conn stream }
-{
-    let phase = Phase::Exchange {
-        conn: conn,
-        stream: stream,
-        count: 0,
-        connect: ConnectWrite::Unsent,
-    };
-    Core {
-        phase: phase,
-        budget: budget,
-        ..c
+impl Phase {
+    pub fn is_done(self) -> bool
+        ensures { result ≡ is_done self }
+    {
+        matches!(self, Phase::Done { .. })
     }
 }
 
-pub fn punching(
-    c: Core,
-    budget: UpgradeBudget,
-    until: u64,
-    blast: BlastSchedule,
-    targets: usize,
-) -> Core
-    ensures { result ≡ punching_of c budget until blast targets }
-{
-    let phase = Phase::Punching {
-        until: until,
-        blast: blast,
-    };
-    Core {
-        phase: phase,
-        budget: budget,
-        targets: targets,
-        ..c
+impl Core {
+    #[tactic(auto, unfolding(crate::specs::State::in_phase))]
+    pub fn with_phase(self, phase: Phase) -> Self
+        ensures { result ≡ in_phase self phase }
+    {
+        Core { phase, ..self }
     }
-}
 
-pub fn is_done(phase: Phase) -> bool
-    ensures { result ≡ is_done phase }
-{
-    match phase {
-        Phase::Done { .. } => true,
-        Phase::Handshaking { .. } => false,
-        Phase::Exchange { .. } => false,
-        Phase::Punching { .. } => false,
+    #[tactic(auto, unfolding(crate::specs::State::done_of))]
+    pub fn finish(self) -> Self
+        ensures { result ≡ done_of self }
+    {
+        self.with_phase(Phase::Done { promoted: true })
+    }
+
+    // The exchange of a round that began; its CONNECT is written by the call that opens it.
+    #[tactic(auto, unfolding(crate::specs::State::exchanging_of))]
+    pub fn exchanging(self, budget: UpgradeBudget, conn: ConnectionId, stream: StreamId) -> Self
+        ensures { result ≡ exchanging_of self budget conn stream }
+    {
+        let phase = Phase::Exchange {
+            conn,
+            stream,
+            count: 0,
+            connect: ConnectWrite::Unsent,
+        };
+        Core {
+            phase,
+            budget,
+            ..self
+        }
+    }
+
+    #[tactic(auto, unfolding(crate::specs::State::punching_of))]
+    pub fn punching(
+        self,
+        budget: UpgradeBudget,
+        until: u64,
+        blast: BlastSchedule,
+        targets: usize,
+    ) -> Self
+        ensures { result ≡ punching_of self budget until blast targets }
+    {
+        Core {
+            phase: Phase::Punching { until, blast },
+            budget,
+            targets,
+            ..self
+        }
     }
 }

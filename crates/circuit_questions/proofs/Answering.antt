@@ -3,23 +3,22 @@ use mathlib.Core.Path.{◌≡◌, refl, ap, ◌∙◌}
 use mathlib.Core.List.{List, [], ◌∷◌}
 use mathlib.Core.Bool.{Bool}
 use Prim.Native.Nat.{ℕ}
+use Rattle.std.specs.Prelude.{None, Option, Some, ℕ}
 use Rattle.prelude.specs.Choice.{bit}
 use Rattle.text.specs.Printed.{printed, behind}
 use Rattle.forms.specs.Forms.{kind_of}
 use Rattle.forms.specs.Texts.{number, word, text, value_in, values_from, values_in}
-use Rattle.vocabulary.specs.declared.Deadline.{Deadline}
-use Rattle.vocabulary.specs.declared.Deadline.TheVariants.{At, None}
 use Rattle.journal_calls.specs.Calls.{Journal, Turned}
 use Rattle.journal_turns.specs.Turns.{line_turn}
 use Rattle.circuit_questions.specs.declared.Answers.{Answers}
 use Rattle.circuit_questions.specs.declared.Given.{Given}
 use Rattle.circuit_questions.specs.Answers.{answers_of, deadline_words, deadline_value, answers_form, answers_text, turn_text, line_text}
 
-words_text : (source : List ℕ) (n : ℕ) (next : Deadline) (p q t : ℕ)
+words_text : (source : List ℕ) (n : ℕ) (next : Option ℕ) (p q t : ℕ)
     → text answers_form (number n ∷ deadline_value next ∷ word p ∷ word q ∷ word t ∷ [])
     ≡ text answers_form (values_in source answers_form (n ∷ (deadline_words next).given ∷ (deadline_words next).at ∷ p ∷ q ∷ t ∷ []))
 unfolding values_in values_from value_in kind_of
-words_text source n (At end) p q t = refl
+words_text source n (Some end) p q t = refl
 words_text source n None p q t = refl
 
 pub answers_text_lem : (source : List ℕ) (n : ℕ) (a : Answers) (took : Bool) {d : Given} {p q t : ℕ} → d ≡ deadline_words a.next → p ≡ bit a.promotes

@@ -6,13 +6,13 @@ use Prim.Native.Nat.{ℕ, ◌≤◌}
 use lib.Dec.{ltb}
 use lib.ListN.{length, take}
 use borrow.Author.Tests.{eqb-true}
+use Rattle.std.specs.Prelude.{Option}
 use Rattle.text.specs.Printed.{printed, behind}
 use Rattle.text.proofs.Printing.{laid_none}
 use Rattle.line_program.specs.declared.Reading.{Reading}
 use Rattle.line_program.specs.Reads.{left, NextLine}
 use Rattle.line_program.proofs.GoingOn.{apart}
 use Rattle.lines.specs.Lines.{longest}
-use Rattle.journal_lines.specs.declared.First.{First}
 use Rattle.journal_calls.specs.Calls.{Journal, state_of}
 use Rattle.journal_calls.specs.declared.State.{State as Numbers}
 use Rattle.journal_text.specs.Texts.{first_of, is_good, opened, opening_text}
@@ -21,14 +21,15 @@ use Rattle.journal_text.proofs.Inputs.{Line, none, same_first, some, none_ended,
 use Rattle.circuit_questions.specs.declared.Ending.{Ending}
 use Rattle.circuit_questions.specs.Steps.{State, state, taken}
 use Rattle.circuit_questions.specs.Runs.{Ran, replayed, Replayed}
+use Rattle.vocabulary.specs.declared.Settings.{Settings}
 
-module _ (reply out : List ℕ) (lent : Numbers → Journal) (blank : (f : First) → lent (state_of (opened f)) ≡ opened f)
+module _ (reply out : List ℕ) (lent : Numbers → Journal) (blank : (f : Option Settings) → lent (state_of (opened f)) ≡ opened f)
     {line block line' : List ℕ} {r : Reading} (x : NextLine line [] block line' r) (hl : longest ≤ length line) where
   abbrev rest : List ℕ
   rest = left block r.from r.until
 
   -- what the buffer says of the first line
-  abbrev said : First
+  abbrev said : (Option Settings)
   said = first_of (take r.used line') r.ended
 
   -- reading failed in the first line

@@ -1,25 +1,16 @@
 -- What the circuit answers after a line (RULES.md, section 11.9), and what is printed of it (README.md).
-use Rattle.std.specs.Prelude.{ℕ, Bool, true, false, List, [], ◌∷◌, ◌++◌}
+use Rattle.std.specs.Prelude.{ℕ, Bool, true, false, List, [], ◌∷◌, ◌++◌, None, Option, Some, is_some}
 use Rattle.prelude.specs.Choice.{pick, bit}
 use Rattle.text.specs.Words.{ascii}
 use Rattle.forms.specs.Texts.{Value, number, some, absent, word, text}
-use Rattle.path.specs.declared.Claim.{Claim}
-use Rattle.vocabulary.specs.declared.Deadline.{Deadline}
 use Rattle.circuit.specs.declared.state.Core.{Core}
 use Rattle.questions.specs.Questions.{promotes_of, claim_of, next_deadline_at}
 use Rattle.journal_calls.specs.Calls.{Journal, Turned}
 use Rattle.journal_turns.specs.Turns.{line_turn}
 use Rattle.circuit_questions.specs.declared.Answers.{Answers}
 use Rattle.circuit_questions.specs.declared.Given.{Given}
-use Rattle.path.specs.declared.Claim.TheVariants as claim
-use Rattle.vocabulary.specs.declared.Deadline.TheVariants as deadline
 
 -- ---- the questions (section 11.9)
-
-abbrev pub is_claim : Claim → Bool
-is_claim claim.None = false
-is_claim (claim.Circuit relay owner) = true
-is_claim (claim.Direct id) = true
 
 -- asked about the connection of the circuit's own number; no circuit is there to be asked until a start was accepted (section 12.5)
 unfoldable pub answers_of : Bool → Core → Answers
@@ -28,20 +19,20 @@ answers_of begun c =
     (record {
       next = next_deadline_at c c.phase;
       promotes = promotes_of c c.circuit;
-      claims = is_claim (claim_of c c.circuit);
+      claims = is_some (claim_of c c.circuit);
     })
-    (record { next = deadline.None; promotes = false; claims = false })
+    (record { next = None; promotes = false; claims = false })
 
 -- ---- what is printed
 
 -- a time or none
-abbrev pub deadline_words : Deadline → Given
-deadline_words (deadline.At end) = record { given = 1; at = end }
-deadline_words deadline.None = record { given = 0; at = 0 }
+abbrev pub deadline_words : Option ℕ → Given
+deadline_words (Some end) = record { given = 1; at = end }
+deadline_words None = record { given = 0; at = 0 }
 
-abbrev pub deadline_value : Deadline → Value
-deadline_value (deadline.At end) = some end
-deadline_value deadline.None = absent
+abbrev pub deadline_value : Option ℕ → Value
+deadline_value (Some end) = some end
+deadline_value None = absent
 
 abbrev pub answers_form : List ℕ
 answers_form = ascii "n=# next=* promotes=(0/1) claims=(0/1) took=(0/1)"

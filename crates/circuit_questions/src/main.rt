@@ -14,7 +14,7 @@ ghost use Rattle.carried.specs.Carried.{no_frame, no_aims};
 ghost use Rattle.journal_calls.specs.Calls.{whole};
 ghost use Rattle.journal_calls.specs.declared.State.{State as Numbers};
 ghost use Rattle.journal_turns.specs.Turns.{line_turn};
-ghost use Rattle.circuit_questions.specs.Answers.{is_claim, answers_of, deadline_words, answers_text, line_text};
+ghost use Rattle.circuit_questions.specs.Answers.{answers_of, deadline_words, answers_text, line_text};
 ghost use Rattle.circuit_questions.specs.Steps.{state, step_of};
 ghost use Rattle.circuit_questions.specs.Runs.{Ran, Replayed};
 
@@ -24,9 +24,7 @@ use journal_calls::State;
 use ledger::Ledger;
 use lent::TargetBytes;
 use line_program::Reading;
-use path::Claim;
 use std::io::{Stdin, Stdout};
-use vocabulary::Deadline;
 
 // How many bytes one read may bring, and how many an answer may have.
 const BUFFER: usize = 65536;
@@ -35,38 +33,26 @@ const BUFFER: usize = 65536;
 
 #[derive(Clone, Copy)]
 pub struct Answers {
-    pub next: Deadline,
+    pub next: Option<u64>,
     pub promotes: bool,
     pub claims: bool,
 }
 
-fn is_claim(claim: Claim) -> bool
-    ensures { result ≡ is_claim claim }
-{
-    match claim {
-        Claim::None => false,
-        Claim::Circuit { .. } => true,
-        Claim::Direct(_) => true,
-    }
-}
-
 // Before a start was accepted the journal's circuit is none that could be asked.
+#[tactic(auto, unfolding(crate::specs::Answers::answers_of))]
 fn ask(begun: bool, c: Core) -> Answers
     ensures { result ≡ answers_of begun c }
 {
     if begun {
         let own = c.circuit;
-        let next = questions::next_deadline(c);
-        let promotes = questions::promotes(c, own);
-        let claims = is_claim(questions::circuit_claim(c, own));
         return Answers {
-            next: next,
-            promotes: promotes,
-            claims: claims,
+            next: questions::next_deadline(c),
+            promotes: questions::promotes(c, own),
+            claims: questions::circuit_claim(c, own).is_some(),
         };
     }
     Answers {
-        next: Deadline::None,
+        next: None,
         promotes: false,
         claims: false,
     }
@@ -77,10 +63,7 @@ fn ask(begun: bool, c: Core) -> Answers
 fn one_if(v: bool) -> u64
     ensures { result ≡ bit v }
 {
-    if v {
-        return 1;
-    }
-    0
+    if v { 1 } else { 0 }
 }
 
 // A time, or none: whether there is one, and which.
@@ -90,12 +73,12 @@ pub struct Given {
     pub at: u64,
 }
 
-fn deadline_words(next: Deadline) -> Given
+fn deadline_words(next: Option<u64>) -> Given
     ensures { result ≡ deadline_words next }
 {
     match next {
-        Deadline::At(end) => Given { given: 1, at: end },
-        Deadline::None => Given { given: 0, at: 0 },
+        Some(end) => Given { given: 1, at: end },
+        None => Given { given: 0, at: 0 },
     }
 }
 

@@ -13,7 +13,10 @@ use Rattle.kinds.specs.declared.Row.{Row}
 use Rattle.rows.specs.Words.{no_row}
 use Rattle.dials.specs.declared.First.{First}
 use Rattle.dials.specs.declared.Firsts.{Firsts}
-use Rattle.dials.specs.Dials.{each, pairs, no_first, tokens_of, connections_of}
+use mathlib.Core.Logic.{◌⊎◌, inl, inr}
+use Rattle.dials.specs.declared.Fate.{Fate}
+use Rattle.dials.specs.declared.Fate.TheVariants.{Other, Stays, Goes, Closes}
+use Rattle.dials.specs.Dials.{retired_by, closed_by, each, pairs, no_first, tokens_of, connections_of}
 use Rattle.dials.proofs.Fill.{Filled, fill_more}
 use Rattle.dials.proofs.Each.{each_more, length_pairs}
 
@@ -61,3 +64,15 @@ no_connection = record { 0 = 0 }
 pub filled_connections : {connections : List ConnectionId} {count : ℕ} {cs : List ConnectionId} → Filled no_connection connections count cs → record { connections = connections; count = count } ≡ connections_of cs
 unfolding connections_of
 filled_connections f = simp (f.array_is, f.count_is)
+
+-- ---- what a dial's fate gives
+pub token_given : (t : Fate) (x : NatToken) → (t ≡ Stays x) ⊎ ((t ≡ Goes x) ⊎ (t ≡ Closes x)) → retired_by t ≡ x ∷ []
+token_given t x (inl e) = rw e refl
+token_given t x (inr (inl e)) = rw e refl
+token_given t x (inr (inr e)) = rw e refl
+
+pub none_closed : (row : Row) (t : Fate) → ((x : NatToken) → t ≡ Closes x → ⊥) → closed_by row t ≡ []
+none_closed row Other n = refl
+none_closed row (Stays x) n = refl
+none_closed row (Goes x) n = refl
+none_closed row (Closes x) n = absurd (n x refl)

@@ -1,5 +1,5 @@
 pub mod Each
-pub mod Noted
 pub mod Fill
 pub mod Gathered
 pub mod Staying
+pub mod Arrays

@@ -1,10 +1,12 @@
 -- The marks of the rows that stay, and the rows that they leave. Assumes nothing.
-use Prim.Native.Nat.{ℕ, suc, ◌≤◌, ◌<◌, ◌-◌, ◌+◌}
+use Prim.Native.Nat.{ℕ, suc, ◌≤◌, ◌<◌}
 use mathlib.Core.Path.{◌≡◌, refl, ap, sym, ◌∙◌}
-use mathlib.Core.Bool.{Bool, false}
+use mathlib.Core.Bool.{Bool, true, false, cond}
+use borrow.Author.Tests.{ltb-true}
+use lib.Dec.{ltb}
 use mathlib.Core.List.{List, [], ◌∷◌, ◌++◌, map}
 use native.Mathlib.Omega.{arith}
-use lib.ListN.{length, get_or, take, set, replicate}
+use lib.ListN.{length, get_or}
 use Rattle.prelude.specs.Choice.{pick}
 use Rattle.ids.specs.declared.ConnectId.{ConnectId}
 use Rattle.kinds.specs.declared.Row.{Row}
@@ -14,18 +16,19 @@ use Rattle.dials.specs.declared.First.{First}
 use Rattle.dials.specs.declared.Fate.{Fate}
 use Rattle.dials.specs.declared.Fate.TheVariants.{Other, Stays, Goes, Closes}
 use Rattle.dials.specs.Dials.{stays, staying, fate_at, left_by, left_of, each, pairs, no_first}
-use Rattle.rows.proofs.Lists.{map_more}
+use Rattle.dials.proofs.Arrays.{map_place}
 use Rattle.dials.proofs.Each.{length_pairs, pairs_at}
 
 abbrev pub stays_of : ConnectId → Row × First → Bool
 stays_of id p = stays (fate_at id p.0 p.1)
 
--- one more mark
-pub mark_more : (id : ConnectId) (rs : List Row) (fs : List First) (i : ℕ) → i < length rs → length rs ≤ length fs → i < 64
-    → set (map (stays_of id) (take i (pairs rs fs)) ++ replicate (64 - i) false) i (stays_of id (get_or rs i no_row, get_or fs i no_first)) ≡ map (stays_of id) (take (i + 1) (pairs rs fs)) ++ replicate (64 - (i + 1)) false
-mark_more id rs fs i l h k =
-    let q : i < length (pairs rs fs) = omega (arith, length_pairs rs fs h) in
-    ap (λ (p : Row × First). set (map (stays_of id) (take i (pairs rs fs)) ++ replicate (64 - i) false) i (stays_of id p)) (sym (pairs_at rs fs i no_row no_first l h)) ∙ map_more (stays_of id) false (pairs rs fs) i (no_row, no_first) q k
+-- the mark of a place: none past the rows
+pub mark_place : (id : ConnectId) (rs : List Row) (fs : List First) (i n : ℕ) → n ≡ length rs → length rs ≤ length fs → cond (ltb i n) (stays_of id (get_or rs i no_row, get_or fs i no_first)) false ≡ get_or (map (stays_of id) (pairs rs fs)) i false
+mark_place id rs fs i n e h = go (ltb i n) refl ∙ map_place (stays_of id) false (no_row, no_first) (pairs rs fs) i n (e ∙ sym (length_pairs rs fs h))
+  where
+    go : (t : Bool) → ltb i n ≡ t → cond t (stays_of id (get_or rs i no_row, get_or fs i no_first)) false ≡ cond t (stays_of id (get_or (pairs rs fs) i (no_row, no_first))) false
+    go true q = let l : i < length rs = omega (arith, ltb-true i n q) in ap (stays_of id) (sym (pairs_at rs fs i no_row no_first l h))
+    go false q = refl
 
 left_marked : (id : ConnectId) (rs : List Row) (fs : List First) (ms : List Bool) → length rs ≤ length fs → marked (map (stays_of id) (pairs rs fs) ++ ms) rs ≡ each (left_of id) (pairs rs fs)
 unfolding marked pairs each stays

@@ -1,7 +1,7 @@
 -- Dropping the dials of an attempt (RULES.md, section 10.4).
 -- ---- the live connections
 -- the peer to ask for: the relay of a relay dial, else the attempt's target
-use Rattle.std.specs.Prelude.{ℕ, Bool, true, false, List, [], ◌∷◌, ◌++◌, map, length, take, replicate, eqb}
+use Rattle.std.specs.Prelude.{ℕ, Bool, true, false, List, [], ◌∷◌, ◌++◌, map, length, take, replicate, eqb, None, Option, Some}
 use Rattle.prelude.specs.Lists.{padded}
 use Rattle.prelude.specs.Choice.{pick}
 use Rattle.ids.specs.declared.PeerId.{PeerId}
@@ -17,8 +17,6 @@ use Rattle.kinds.specs.declared.Row.{Row}
 use Rattle.rows.specs.declared.Marks.{Marks}
 use Rattle.kinds.specs.Kinds.{entry_of}
 use Rattle.rows.specs.Rows.{capacity}
-use Rattle.dials.specs.declared.FirstLive.{FirstLive}
-use Rattle.dials.specs.declared.FirstLive.TheVariants.{None as NoLive, At as LiveAt}
 use Rattle.dials.specs.declared.First.{First}
 use Rattle.dials.specs.declared.Firsts.{Firsts}
 use Rattle.dials.specs.declared.Fate.{Fate}
@@ -43,20 +41,20 @@ unfoldable pub asked_of : PeerId → Row → PeerId
 asked_of target row = asked_entry (entry_of row) target
 
 -- what is found for a row
-unfoldable pub first_for : PeerId → (PeerId → FirstLive) → Row → First
+unfoldable pub first_for : PeerId → (PeerId → Option ConnectionId) → Row → First
 first_for target first row = record { live = first (asked_of target row) }
 
 abbrev pub no_first : First
-no_first = record { live = NoLive }
+no_first = record { live = None }
 
 -- nothing found for any row
 abbrev pub no_firsts : Firsts
 no_firsts = record { rows = replicate capacity no_first }
 
 -- ---- what becomes of a dial
-unfoldable pub is_first : FirstLive → ℕ → Bool
-is_first (LiveAt first) conn = eqb first.0 conn
-is_first NoLive conn = false
+unfoldable pub is_first : Option ConnectionId → ℕ → Bool
+is_first (Some first) conn = eqb first.0 conn
+is_first None conn = false
 
 -- of the attempt's dials a live punch dial keeps its row, a live relay dial loses it, any other is closed too
 abbrev pub fate_by : DialPurpose → ConnectId → Bool → NatToken → Fate
@@ -137,5 +135,5 @@ unfoldable pub abort_with : ConnectId → List (Row × First) → Dropped
 abort_with id ps = record { retired = tokens_of (each (retired_of id) ps); close = connections_of (each (closed_of id) ps) }
 
 -- each row with what is found for it
-abbrev pub with_firsts : PeerId → (PeerId → FirstLive) → List Row → List (Row × First)
+abbrev pub with_firsts : PeerId → (PeerId → Option ConnectionId) → List Row → List (Row × First)
 with_firsts target first rs = map (λ (r : Row). (r, first_for target first r)) rs

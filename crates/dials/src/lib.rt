@@ -10,17 +10,11 @@ use ids::{ConnectId, ConnectionId, NatToken, PeerId};
 use kinds::{Entry, Row};
 use path::{Dial, DialPurpose};
 use rows::{Ledger, Marks, ROWS, Table};
-
-// A peer's first live connection, if it has one.
-#[derive(Clone, Copy)]
-pub enum FirstLive {
-    None,
-    At(ConnectionId),
-}
+use std::array;
 
 #[derive(Clone, Copy)]
 pub struct First {
-    pub live: FirstLive,
+    pub live: Option<ConnectionId>,
 }
 
 // The first live connection of the peer to ask for, for each row of the table.
@@ -61,6 +55,7 @@ pub enum Fate {
     Closes(NatToken),
 }
 
+#[tactic(auto, unfolding(crate::specs::Dials::tokens_of))]
 fn no_tokens() -> Tokens
     ensures { result ≡ tokens_of [] }
 {
@@ -71,6 +66,7 @@ fn no_tokens() -> Tokens
     }
 }
 
+#[tactic(auto, unfolding(crate::specs::Dials::connections_of))]
 fn no_connections() -> Connections
     ensures { result ≡ connections_of [] }
 {
@@ -85,102 +81,81 @@ fn no_connections() -> Connections
 pub fn no_firsts() -> Firsts
     ensures { result ≡ no_firsts }
 {
-    let none = First {
-        live: FirstLive::None,
-    };
+    let none = First { live: None };
     Firsts { rows: [none; ROWS] }
 }
 
 // The peer to ask for: the relay of a relay dial, else the attempt's target.
+#[tactic(auto, unfolding(crate::specs::Dials::asked_by))]
 fn asked_by(purpose: DialPurpose, target: PeerId) -> PeerId
     ensures { result ≡ asked_by purpose target }
 {
     match purpose {
         DialPurpose::Relay(_, relay) => relay,
-        DialPurpose::Punch(_) => target,
-        DialPurpose::Probe(_) => target,
-        DialPurpose::Reserve(_) => target,
+        DialPurpose::Punch(_) | DialPurpose::Probe(_) | DialPurpose::Reserve(_) => target,
     }
 }
 
+#[tactic(auto, unfolding(crate::specs::Dials::asked_of))]
 pub fn asked_of(row: Row, target: PeerId) -> PeerId
     ensures { result ≡ asked_of target row }
 {
-    let entry = kinds::entry_of(row);
-    match entry {
-        Entry::Dialed(dial) => {
-            let purpose = dial.purpose;
-            asked_by(purpose, target)
-        }
-        Entry::Other => target,
-        Entry::Window(_) => target,
-        Entry::Path(_) => target,
+    match kinds::entry_of(row) {
+        Entry::Dialed(dial) => asked_by(dial.purpose, target),
+        Entry::Other | Entry::Window(_) | Entry::Path(_) => target,
     }
 }
 
-fn is_first(live: FirstLive, conn: u64) -> bool
+#[tactic(auto, unfolding(crate::specs::Dials::is_first))]
+fn is_first(live: Option<ConnectionId>, conn: u64) -> bool
     ensures { result ≡ is_first live conn }
 {
     match live {
-        FirstLive::At(first) => first.0 == conn,
-        FirstLive::None => false,
+        Some(first) => first.0 == conn,
+        None => false,
     }
 }
 
 // What becomes of a dial of the attempt.
+#[tactic(auto, unfolding(crate::specs::Dials::fate_of))]
 fn fate_of(dial: Dial, id: ConnectId, live: bool) -> Fate
     ensures { result ≡ fate_of id live dial }
 {
     let token = dial.token;
-    let purpose = dial.purpose;
-    match purpose {
-        DialPurpose::Relay(attempt, _) => {
-            if attempt.0 != id.0 {
-                return Fate::Other;
-            }
+    match dial.purpose {
+        DialPurpose::Relay(attempt, _) if attempt.0 == id.0 => {
             if live {
-                return Fate::Goes(token);
+                Fate::Goes(token)
+            } else {
+                Fate::Closes(token)
             }
-            Fate::Closes(token)
         }
-        DialPurpose::Punch(attempt) => {
-            if attempt.0 != id.0 {
-                return Fate::Other;
-            }
+        DialPurpose::Punch(attempt) if attempt.0 == id.0 => {
             if live {
-                return Fate::Stays(token);
+                Fate::Stays(token)
+            } else {
+                Fate::Closes(token)
             }
-            Fate::Closes(token)
         }
-        DialPurpose::Probe(_) => Fate::Other,
-        DialPurpose::Reserve(_) => Fate::Other,
+        _ => Fate::Other,
     }
 }
 
+#[tactic(auto, unfolding(crate::specs::Dials::fate_at))]
 fn fate_at(row: Row, id: ConnectId, first: First) -> Fate
     ensures { result ≡ fate_at id row first }
 {
-    let key = row.key;
-    let entry = kinds::entry_of(row);
-    let live = first.live;
-    let is_live = is_first(live, key);
-    match entry {
-        Entry::Dialed(dial) => fate_of(dial, id, is_live),
-        Entry::Other => Fate::Other,
-        Entry::Window(_) => Fate::Other,
-        Entry::Path(_) => Fate::Other,
+    match kinds::entry_of(row) {
+        Entry::Dialed(dial) => fate_of(dial, id, is_first(first.live, row.key)),
+        Entry::Other | Entry::Window(_) | Entry::Path(_) => Fate::Other,
     }
 }
 
+#[tactic(auto, unfolding(crate::specs::Dials::stays))]
 fn stays_with(fate: Fate) -> bool
     ensures { result ≡ stays fate }
 {
-    match fate {
-        Fate::Other => true,
-        Fate::Stays(_) => true,
-        Fate::Goes(_) => false,
-        Fate::Closes(_) => false,
-    }
+    matches!(&fate, Fate::Other | Fate::Stays(_))
 }
 
 // The rows that stay.
@@ -188,81 +163,43 @@ fn staying_of(l: &Ledger, id: ConnectId, firsts: Firsts) -> Marks
     ensures { result ≡ staying id (pairs (rows_of Dials l.now) firsts.rows) }
 {
     let n = rows::used(l, Table::Dials);
-    let mut marks = Marks {
-        keep: [false; ROWS],
-    };
-    let mut i: usize = 0;
-    while i < n {
-        let row = rows::row_at(l, Table::Dials, i);
-        marks.keep[i] = stays_with(fate_at(row, id, firsts.rows[i]));
-        i += 1;
+    Marks {
+        keep: array::from_fn(|i| {
+            i < n && stays_with(fate_at(rows::row_at(l, Table::Dials, i), id, firsts.rows[i]))
+        }),
     }
-    marks
 }
 
 // The tokens of the attempt's dials.
 fn retired_of(l: &Ledger, id: ConnectId, firsts: Firsts) -> Tokens
     ensures { result ≡ tokens_of (each (retired_of id) (pairs (rows_of Dials l.now) firsts.rows)) }
 {
-    let n = rows::used(l, Table::Dials);
-    let none = no_tokens();
-    let mut tokens = none.tokens;
-    let mut m: usize = 0;
-    let mut i: usize = 0;
-    while i < n {
-        let row = rows::row_at(l, Table::Dials, i);
-        let fate = fate_at(row, id, firsts.rows[i]);
-        i += 1;
-        match fate {
+    let mut retired = no_tokens();
+    for i in 0..rows::used(l, Table::Dials) {
+        match fate_at(rows::row_at(l, Table::Dials, i), id, firsts.rows[i]) {
             Fate::Other => {}
-            Fate::Stays(token) => {
-                tokens[m] = token;
-                m += 1;
-            }
-            Fate::Goes(token) => {
-                tokens[m] = token;
-                m += 1;
-            }
-            Fate::Closes(token) => {
-                tokens[m] = token;
-                m += 1;
+            Fate::Stays(token) | Fate::Goes(token) | Fate::Closes(token) => {
+                retired.tokens[retired.count as usize] = token;
+                retired.count += 1;
             }
         }
     }
-    Tokens {
-        tokens,
-        count: m as u64,
-    }
+    retired
 }
 
 // The connections to close.
 fn closed_of(l: &Ledger, id: ConnectId, firsts: Firsts) -> Connections
     ensures { result ≡ connections_of (each (closed_of id) (pairs (rows_of Dials l.now) firsts.rows)) }
 {
-    let n = rows::used(l, Table::Dials);
-    let none = no_connections();
-    let mut connections = none.connections;
-    let mut m: usize = 0;
-    let mut i: usize = 0;
-    while i < n {
+    let mut close = no_connections();
+    for i in 0..rows::used(l, Table::Dials) {
         let row = rows::row_at(l, Table::Dials, i);
-        let fate = fate_at(row, id, firsts.rows[i]);
-        i += 1;
-        match fate {
-            Fate::Other => {}
-            Fate::Stays(_) => {}
-            Fate::Goes(_) => {}
-            Fate::Closes(_) => {
-                let conn = ConnectionId(row.key);
-                connections[m] = conn;
-                m += 1;
-            }
+        if let Fate::Closes(_) = fate_at(row, id, firsts.rows[i]) {
+            close.connections[close.count as usize] = ConnectionId(row.key);
+            close.count += 1;
         }
     }
-    Connections {
-        connections,
-        count: m as u64,
-    }
+    close
 }
 
 // Drops the dials of the attempt, where the first live connection is known for each row.

@@ -8,117 +8,112 @@ ghost use Rattle.entries.specs.Entries.{dial_of, path_of, end_of, dial_at, path_
 
 use ids::{ConnectionId, PeerId};
 use kinds::Entry;
-use path::{FoundDial, FoundPath};
-use rows::{Found, Ledger, Table};
-use vocabulary::Deadline;
+use path::{Attribution, Dial};
+use rows::{Ledger, Table};
 
-fn dial_of(entry: Entry) -> FoundDial
+#[tactic(auto, unfolding(crate::specs::Entries::dial_of))]
+fn dial_of(entry: Entry) -> Option<Dial>
     ensures { result ≡ dial_of entry }
 {
     match entry {
-        Entry::Dialed(dial) => FoundDial::At(dial),
-        Entry::Other => FoundDial::None,
-        Entry::Window(_) => FoundDial::None,
-        Entry::Path(_) => FoundDial::None,
+        Entry::Dialed(dial) => Some(dial),
+        Entry::Other | Entry::Window(_) | Entry::Path(_) => None,
     }
 }
 
-fn path_of(entry: Entry) -> FoundPath
+#[tactic(auto, unfolding(crate::specs::Entries::path_of))]
+fn path_of(entry: Entry) -> Option<Attribution>
     ensures { result ≡ path_of entry }
 {
     match entry {
-        Entry::Path(attribution) => FoundPath::At(attribution),
-        Entry::Other => FoundPath::None,
-        Entry::Dialed(_) => FoundPath::None,
-        Entry::Window(_) => FoundPath::None,
+        Entry::Path(attribution) => Some(attribution),
+        Entry::Other | Entry::Dialed(_) | Entry::Window(_) => None,
     }
 }
 
-fn end_of(entry: Entry) -> Deadline
+#[tactic(auto, unfolding(crate::specs::Entries::end_of))]
+fn end_of(entry: Entry) -> Option<u64>
     ensures { result ≡ end_of entry }
 {
     match entry {
-        Entry::Window(end) => Deadline::At(end),
-        Entry::Other => Deadline::None,
-        Entry::Dialed(_) => Deadline::None,
-        Entry::Path(_) => Deadline::None,
+        Entry::Window(end) => Some(end),
+        Entry::Other | Entry::Dialed(_) | Entry::Path(_) => None,
     }
 }
 
-pub fn dial_at(l: &Ledger, conn: ConnectionId) -> FoundDial
+#[tactic(auto, unfolding(crate::specs::Entries::dial_at))]
+pub fn dial_at(l: &Ledger, conn: ConnectionId) -> Option<Dial>
     ensures { result ≡ dial_at conn (rows_of Dials l.now) }
 {
-    let found = rows::find(l, Table::Dials, conn.0);
-    match found {
-        Found::At(entry) => dial_of(entry),
-        Found::Nothing => FoundDial::None,
+    match rows::find(l, Table::Dials, conn.0) {
+        Some(entry) => dial_of(entry),
+        None => None,
     }
 }
 
-pub fn path_at(l: &Ledger, conn: ConnectionId) -> FoundPath
+#[tactic(auto, unfolding(crate::specs::Entries::path_at))]
+pub fn path_at(l: &Ledger, conn: ConnectionId) -> Option<Attribution>
     ensures { result ≡ path_at conn (rows_of Paths l.now) }
 {
-    let found = rows::find(l, Table::Paths, conn.0);
-    match found {
-        Found::At(entry) => path_of(entry),
-        Found::Nothing => FoundPath::None,
+    match rows::find(l, Table::Paths, conn.0) {
+        Some(entry) => path_of(entry),
+        None => None,
     }
 }
 
-fn end_at(l: &Ledger, peer: PeerId) -> Deadline
+#[tactic(auto, unfolding(crate::specs::Entries::end_at))]
+fn end_at(l: &Ledger, peer: PeerId) -> Option<u64>
     ensures { result ≡ end_at peer (rows_of Windows l.now) }
 {
-    let found = rows::find(l, Table::Windows, peer.0);
-    match found {
-        Found::At(entry) => end_of(entry),
-        Found::Nothing => Deadline::None,
+    match rows::find(l, Table::Windows, peer.0) {
+        Some(entry) => end_of(entry),
+        None => None,
     }
 }
 
 // A window lasts while the reading is below its end.
+#[tactic(auto, unfolding(crate::specs::Entries::window_open))]
 pub fn window_open(l: &Ledger, peer: PeerId, reading: u64) -> bool
     ensures { result ≡ window_open peer reading (rows_of Windows l.now) }
 {
-    let end = end_at(l, peer);
-    match end {
-        Deadline::At(until) => reading < until,
-        Deadline::None => false,
+    match end_at(l, peer) {
+        Some(until) => reading < until,
+        None => false,
     }
 }
 
 // The later of the end of the peer's window and the end that is asked for.
+#[tactic(auto, unfolding(crate::specs::Entries::punch_end))]
 pub fn punch_end(l: &Ledger, peer: PeerId, until: u64) -> u64
     ensures { result ≡ punch_end peer until (rows_of Windows l.now) }
 {
-    let end = end_at(l, peer);
-    match end {
-        Deadline::At(old) => if old < until { until } else { old },
-        Deadline::None => until,
+    match end_at(l, peer) {
+        Some(old) => if old < until { until } else { old },
+        None => until,
     }
 }
 
-fn sooner_of(a: Deadline, b: Deadline) -> Deadline
+#[tactic(auto, unfolding(crate::specs::Entries::sooner))]
+fn sooner_of(a: Option<u64>, b: Option<u64>) -> Option<u64>
     ensures { result ≡ sooner a b }
 {
-    let Deadline::At(x) = a else {
+    let Some(x) = a else {
         return b;
     };
-    let Deadline::At(y) = b else {
+    let Some(y) = b else {
         return a;
     };
     if y < x { b } else { a }
 }
 
 // The smallest end of a window.
-pub fn soonest_end(l: &Ledger) -> Deadline
+pub fn soonest_end(l: &Ledger) -> Option<u64>
     ensures { result ≡ soonest (rows_of Windows l.now) }
 {
-    let mut i = rows::used(l, Table::Windows);
-    let mut end = Deadline::None;
-    while 0 < i {
-        i -= 1;
+    let mut end = None;
+    for i in 0..rows::used(l, Table::Windows) {
         let entry = kinds::entry_of(rows::row_at(l, Table::Windows, i));
-        end = sooner_of(end_of(entry), end);
+        end = sooner_of(end, end_of(entry));
     }
     end
 }

@@ -8,12 +8,12 @@ use lib.Dec.{eqb, ltb}
 use lib.ListN.{length, drop, length-append}
 use lib.Seq.{drop-drop, take-append_seam, drop-append_seam}
 use borrow.Author.Tests.{eqb-true, eq-eqb, ne_eqb, lt-leb}
+use Rattle.std.specs.Prelude.{None, Option, Some}
 use Rattle.prelude.specs.Choice.{pick, no, both}
 use Rattle.text.specs.Words.{ascii, begins, is_word, length_before}
 use Rattle.prelude.specs.Numbers.{max_u64}
 use Rattle.text.specs.Decimal.{decimal_of, decimal, digits_from}
 use Rattle.text.specs.Hexadecimal.{bytes_of, hexadecimal, digit_of, Bytes}
-use Rattle.text.specs.declared.Number.TheVariants as number_of_lem
 use Rattle.text.proofs.Decimal.{number_read, read_digit}
 use Rattle.text.proofs.Hexadecimal.{bytes_read, bytes_taken}
 use Rattle.forms.specs.Forms.{kind_of, is_literal, opens, choice, words_of, maybe_words, pair_words, listed, is_good, Reading, Good, Bad, read_from, read_form}
@@ -40,20 +40,20 @@ run_both : (stop : ℕ) (s t : List ℕ) → length_before stop s ≡ length s �
 run_both stop s t h k = omega (arith, run_on stop s t h, length-append s t)
 
 -- digits hold no byte outside 48 to 57
-digits_run : (stop : ℕ) (t : List ℕ) (v : ℕ) {w : ℕ} → (48 ≤ stop → stop ≤ 57 → ⊥) → digits_from v t ≡ number_of_lem.Value w → length_before stop t ≡ length t
+digits_run : (stop : ℕ) (t : List ℕ) (v : ℕ) {w : ℕ} → (48 ≤ stop → stop ≤ 57 → ⊥) → digits_from v t ≡ Some w → length_before stop t ≡ length t
 unfolding length_before
 digits_run stop [] v n e = refl
 digits_run stop (d ∷ t) v n e =
     let q = read_digit v d t e in
     rw (ne_eqb d stop (λ g. n (omega arith) (omega arith)), digits_run stop t (v * 10 + (d - 48)) n q.3)
 
-from_digits : (s : List ℕ) {v : ℕ} → decimal_of s ≡ number_of_lem.Value v → digits_from 0 s ≡ number_of_lem.Value v
+from_digits : (s : List ℕ) {v : ℕ} → decimal_of s ≡ Some v → digits_from 0 s ≡ Some v
 unfolding decimal_of
 from_digits [] e = let z : ◌≡◌ {A = ℕ} 0 1 = cc in absurd (omega arith)
 from_digits (d ∷ []) e = e
 from_digits (d ∷ b ∷ s) {v} e = go (eqb d 48) e
   where
-    go : (t : Bool) → pick t number_of_lem.Bad (digits_from 0 (d ∷ b ∷ s)) ≡ number_of_lem.Value v → digits_from 0 (d ∷ b ∷ s) ≡ number_of_lem.Value v
+    go : (t : Bool) → pick t None (digits_from 0 (d ∷ b ∷ s)) ≡ Some v → digits_from 0 (d ∷ b ∷ s) ≡ Some v
     go true e = let z : ◌≡◌ {A = ℕ} 0 1 = cc in absurd (omega arith)
     go false e = e
 
@@ -110,7 +110,7 @@ ends_there false (b ∷ form) vs h = rw (eqb-true b 32 h) space
 
 -- ---- a value
 
-none_is_no_number : {v : ℕ} → decimal_of (ascii "none") ≡ number_of_lem.Value v → ⊥
+none_is_no_number : {v : ℕ} → decimal_of (ascii "none") ≡ Some v → ⊥
 unfolding decimal_of digits_from
 none_is_no_number e = let z : ◌≡◌ {A = ℕ} 0 1 = cc in omega arith
 
@@ -158,7 +158,7 @@ module _ (a b : ℕ) (ha : a ≤ max_u64) (hb : b ≤ max_u64) where
   second : drop (length (decimal a) + 1) both_text ≡ decimal b
   second = sym (drop-drop 1 (length (decimal a)) both_text) ∙ ap (drop 1) (drop-append_seam (decimal a) (ascii ":" ++ decimal b))
 
-  pub pair_read : pair_words both_text ≡ words.Three 1 a b
+  pub pair_read : pair_words both_text ≡ Some (words.Three 1 a b)
   unfolding pair_words
   pair_read =
       rw (pair_not_none, colon_at, lt-leb (length both_text) (length (decimal a)) (omega (arith, pair_length)), take-append_seam (decimal a) (ascii ":" ++ decimal b), second, number_read a ha, number_read b hb)
@@ -179,7 +179,7 @@ both_true false q e = let z : ◌≡◌ {A = ℕ} 0 1 = cc in absurd (omega arit
 -- whatever gets the bytes that a line's digits stand for
 module _ (line : List ℕ) (get : ℕ → ℕ → List ℕ) (none : (start : ℕ) → get start start ≡ [])
     (whole : (start end b : ℕ) (s : List ℕ) → Bytes (b ∷ s) → part line start end ≡ hexadecimal (b ∷ s) → get start end ≡ b ∷ s) where
-  abbrev Had : List ℕ → Value → Words → List ℕ → Type 0
+  abbrev Had : List ℕ → Value → Option Words → List ℕ → Type 0
   Had ch v w ws = (is_good w ≡ true) × (value_in get (kind_of_value v) (listed w ++ ws) ≡ v) × (drop (width (kind_of_value v)) (listed w ++ ws) ≡ ws)
 
   had_some : (v : ℕ) (ws : List ℕ) → v ≤ max_u64 → Had [] (some v) (maybe_words (decimal v)) ws

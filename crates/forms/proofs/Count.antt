@@ -4,6 +4,7 @@ use mathlib.Core.List.{List, [], ◌∷◌, ◌++◌}
 use mathlib.Core.Bool.{Bool, true, false}
 use Prim.Native.Nat.{ℕ, suc, ◌+◌, ◌≤◌}
 use borrow.Author.Tests.{eqb-true}
+use Rattle.std.specs.Prelude.{None, Option, Some, ℕ}
 use Rattle.text.proofs.Decimal.{begins_split}
 use native.Mathlib.Omega.{arith}
 use lib.Dec.{eqb, leb}
@@ -13,8 +14,6 @@ use Rattle.text.specs.Words.{ascii, begins, is_word, length_before}
 use Rattle.text.specs.Decimal.{decimal_of}
 use Rattle.text.specs.Hexadecimal.{is_hexadecimal}
 use Rattle.text.specs.Printed.{printed, behind}
-use Rattle.text.specs.declared.Number.{Number}
-use Rattle.text.specs.declared.Number.TheVariants as number
 use Rattle.text.proofs.Printing.{fits, fits_place}
 use Rattle.forms.specs.Forms.{kind_of, is_literal, opens, choice, split, words_of, number_words, some_words, maybe_words, both_words, pair_words, listed, is_good, Reading, Good, Bad, followed, read_from, read_form, is_read, words_from, Stored}
 use Rattle.forms.specs.Texts.{width, count_from, spaces, spaces_from}
@@ -23,25 +22,25 @@ use Rattle.forms.specs.declared.Kind.TheVariants as kind
 use Rattle.forms.specs.declared.Words.TheVariants as words
 use Rattle.forms.proofs.Only.{found, parted}
 
-wide_maybe : (t : Bool) (r : Number) → is_good (pick t (words.Two 0 0) (some_words r)) ≡ true → length (listed (pick t (words.Two 0 0) (some_words r))) ≡ 2
+wide_maybe : (t : Bool) (r : Option ℕ) → is_good (pick t (Some (words.Two 0 0)) (some_words r)) ≡ true → length (listed (pick t (Some (words.Two 0 0)) (some_words r))) ≡ 2
 wide_maybe true r h = refl
-wide_maybe false (number.Value v) h = refl
-wide_maybe false number.Bad h = let z : ◌≡◌ {A = ℕ} 0 1 = cc in absurd (omega arith)
+wide_maybe false (Some v) h = refl
+wide_maybe false None h = let z : ◌≡◌ {A = ℕ} 0 1 = cc in absurd (omega arith)
 
-wide_pair : (t u : Bool) (x y : Number) → is_good (pick t (words.Three 0 0 0) (pick u words.Bad (both_words x y))) ≡ true
-    → length (listed (pick t (words.Three 0 0 0) (pick u words.Bad (both_words x y)))) ≡ 3
+wide_pair : (t u : Bool) (x y : Option ℕ) → is_good (pick t (Some (words.Three 0 0 0)) (pick u None (both_words x y))) ≡ true
+    → length (listed (pick t (Some (words.Three 0 0 0)) (pick u None (both_words x y)))) ≡ 3
 wide_pair true u x y h = refl
 wide_pair false true x y h = let z : ◌≡◌ {A = ℕ} 0 1 = cc in absurd (omega arith)
-wide_pair false false (number.Value a) (number.Value b) h = refl
-wide_pair false false (number.Value a) number.Bad h = let z : ◌≡◌ {A = ℕ} 0 1 = cc in absurd (omega arith)
-wide_pair false false number.Bad y h = let z : ◌≡◌ {A = ℕ} 0 1 = cc in absurd (omega arith)
+wide_pair false false (Some a) (Some b) h = refl
+wide_pair false false (Some a) None h = let z : ◌≡◌ {A = ℕ} 0 1 = cc in absurd (omega arith)
+wide_pair false false None y h = let z : ◌≡◌ {A = ℕ} 0 1 = cc in absurd (omega arith)
 
-wide_number : (r : Number) → is_good (number_words r) ≡ true → length (listed (number_words r)) ≡ 1
-wide_number (number.Value v) h = refl
-wide_number number.Bad h = let z : ◌≡◌ {A = ℕ} 0 1 = cc in absurd (omega arith)
+wide_number : (r : Option ℕ) → is_good (number_words r) ≡ true → length (listed (number_words r)) ≡ 1
+wide_number (Some v) h = refl
+wide_number None h = let z : ◌≡◌ {A = ℕ} 0 1 = cc in absurd (omega arith)
 
-wide_bytes : (start end : ℕ) (t u v : Bool) → is_good (pick t (words.Two start start) (pick u words.Bad (pick v (words.Two start end) words.Bad))) ≡ true
-    → length (listed (pick t (words.Two start start) (pick u words.Bad (pick v (words.Two start end) words.Bad)))) ≡ 2
+wide_bytes : (start end : ℕ) (t u v : Bool) → is_good (pick t (Some (words.Two start start)) (pick u None (pick v (Some (words.Two start end)) None))) ≡ true
+    → length (listed (pick t (Some (words.Two start start)) (pick u None (pick v (Some (words.Two start end)) None)))) ≡ 2
 wide_bytes start end true u v h = refl
 wide_bytes start end false true v h = let z : ◌≡◌ {A = ℕ} 0 1 = cc in absurd (omega arith)
 wide_bytes start end false false true h = refl

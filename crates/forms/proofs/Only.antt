@@ -9,12 +9,11 @@ use lib.Dec.{eqb, leb}
 use lib.ListN.{length, take, drop, get_or, take-append-drop, drop_of_length-le}
 use lib.Seq.{drop-drop}
 use borrow.Author.Tests.{eqb-true, eqb-false, leb-false}
+use Rattle.std.specs.Prelude.{None, Option, Some, ℕ}
 use Rattle.prelude.specs.Choice.{pick, no, both}
 use Rattle.text.specs.Words.{ascii, begins, is_word, length_before}
 use Rattle.text.specs.Decimal.{decimal_of}
 use Rattle.text.specs.Hexadecimal.{is_hexadecimal, bytes_of, bytes_text, hexadecimal}
-use Rattle.text.specs.declared.Number.{Number}
-use Rattle.text.specs.declared.Number.TheVariants as number
 use Rattle.text.proofs.Decimal.{number_text, begins_split}
 use Rattle.text.proofs.Hexadecimal.{text_of_bytes}
 use Rattle.forms.specs.Forms.{kind_of, is_literal, opens, choice, split, which_word, words_of, number_words, some_words, maybe_words, both_words, pair_words, listed, is_good, Reading, Good, Bad, prepend, followed, read_from, read_form}
@@ -56,15 +55,15 @@ some_bytes (b ∷ s) t e h = e
 
 -- a word that is found is one of the words
 pub found : (k : ℕ) (ws : List (List ℕ)) (value : List ℕ) → is_good (which_word k ws value) ≡ true
-    → (n : ℕ) × (which_word k ws value ≡ words.One (k + n)) × (get_or ws n [] ≡ value)
+    → (n : ℕ) × (which_word k ws value ≡ Some (words.One (k + n))) × (get_or ws n [] ≡ value)
 unfolding which_word
 found k [] value h = let z : ◌≡◌ {A = ℕ} 0 1 = cc in absurd (omega arith)
 found k (w ∷ ws) value h = go (is_word w value) refl (found (suc k) ws value) h
   where
     go : (t : Bool) → is_word w value ≡ t
-        → (is_good (which_word (suc k) ws value) ≡ true → (n : ℕ) × (which_word (suc k) ws value ≡ words.One (suc k + n)) × (get_or ws n [] ≡ value))
-        → is_good (pick t (words.One k) (which_word (suc k) ws value)) ≡ true
-        → (n : ℕ) × (pick t (words.One k) (which_word (suc k) ws value) ≡ words.One (k + n)) × (get_or (w ∷ ws) n [] ≡ value)
+        → (is_good (which_word (suc k) ws value) ≡ true → (n : ℕ) × (which_word (suc k) ws value ≡ Some (words.One (suc k + n))) × (get_or ws n [] ≡ value))
+        → is_good (pick t (Some (words.One k)) (which_word (suc k) ws value)) ≡ true
+        → (n : ℕ) × (pick t (Some (words.One k)) (which_word (suc k) ws value) ≡ Some (words.One (k + n))) × (get_or (w ∷ ws) n [] ≡ value)
     go true e f h = let z : k + 0 ≡ k = omega arith in (0, rw z, sym (word_text w value e))
     go false e f h =
         let q = f h in
@@ -81,19 +80,19 @@ module _ (line : List ℕ) where
   abbrev pub get : ℕ → ℕ → List ℕ
   get = λ start end. bytes_of (part line start end)
 
-  abbrev Told : Kind → List ℕ → List ℕ → Words → List ℕ → Type 0
+  abbrev Told : Kind → List ℕ → List ℕ → Option Words → List ℕ → Type 0
   Told k ch value w ws = (value_text ch (value_in get k (listed w ++ ws)) ≡ value) × (drop (width k) (listed w ++ ws) ≡ ws)
 
   told_maybe : (ch value ws : List ℕ) → is_good (maybe_words value) ≡ true → Told kind.Maybe ch value (maybe_words value) ws
   unfolding maybe_words value_text value_in
   told_maybe ch value ws h = go (is_word (ascii "none") value) refl (decimal_of value) refl h
     where
-      go : (t : Bool) → is_word (ascii "none") value ≡ t → (r : Number) → decimal_of value ≡ r
-          → is_good (pick t (words.Two 0 0) (some_words r)) ≡ true
-          → Told kind.Maybe ch value (pick t (words.Two 0 0) (some_words r)) ws
+      go : (t : Bool) → is_word (ascii "none") value ≡ t → (r : Option ℕ) → decimal_of value ≡ r
+          → is_good (pick t (Some (words.Two 0 0)) (some_words r)) ≡ true
+          → Told kind.Maybe ch value (pick t (Some (words.Two 0 0)) (some_words r)) ws
       go true e r f h = (sym (word_text (ascii "none") value e), refl)
-      go false e (number.Value v) f h = (number_text value f, refl)
-      go false e number.Bad f h = let z : ◌≡◌ {A = ℕ} 0 1 = cc in absurd (omega arith)
+      go false e (Some v) f h = (number_text value f, refl)
+      go false e None f h = let z : ◌≡◌ {A = ℕ} 0 1 = cc in absurd (omega arith)
 
   told_pair : (ch value ws : List ℕ) → is_good (pair_words value) ≡ true → Told kind.Pair ch value (pair_words value) ws
   unfolding pair_words value_text value_in
@@ -101,15 +100,15 @@ module _ (line : List ℕ) where
       go (is_word (ascii "none") value) refl (leb (length value) (length_before 58 value)) refl (decimal_of (take (length_before 58 value) value)) refl (decimal_of (drop (length_before 58 value + 1) value)) refl h
     where
       go : (t : Bool) → is_word (ascii "none") value ≡ t → (u : Bool) → leb (length value) (length_before 58 value) ≡ u
-          → (x : Number) → decimal_of (take (length_before 58 value) value) ≡ x → (y : Number) → decimal_of (drop (length_before 58 value + 1) value) ≡ y
-          → is_good (pick t (words.Three 0 0 0) (pick u words.Bad (both_words x y))) ≡ true
-          → Told kind.Pair ch value (pick t (words.Three 0 0 0) (pick u words.Bad (both_words x y))) ws
+          → (x : Option ℕ) → decimal_of (take (length_before 58 value) value) ≡ x → (y : Option ℕ) → decimal_of (drop (length_before 58 value + 1) value) ≡ y
+          → is_good (pick t (Some (words.Three 0 0 0)) (pick u None (both_words x y))) ≡ true
+          → Told kind.Pair ch value (pick t (Some (words.Three 0 0 0)) (pick u None (both_words x y))) ws
       go true e u f x i y j h = (sym (word_text (ascii "none") value e), refl)
       go false e true f x i y j h = let z : ◌≡◌ {A = ℕ} 0 1 = cc in absurd (omega arith)
-      go false e false f (number.Value a) i (number.Value b) j h =
+      go false e false f (Some a) i (Some b) j h =
           (rw (number_text (take (length_before 58 value) value) i, number_text (drop (length_before 58 value + 1) value) j, add-one (length_before 58 value)) (sym (stop_split 58 value (leb-false _ _ f))), refl)
-      go false e false f (number.Value a) i number.Bad j h = let z : ◌≡◌ {A = ℕ} 0 1 = cc in absurd (omega arith)
-      go false e false f number.Bad i y j h = let z : ◌≡◌ {A = ℕ} 0 1 = cc in absurd (omega arith)
+      go false e false f (Some a) i None j h = let z : ◌≡◌ {A = ℕ} 0 1 = cc in absurd (omega arith)
+      go false e false f None i y j h = let z : ◌≡◌ {A = ℕ} 0 1 = cc in absurd (omega arith)
 
   told : (k : Kind) (ch value : List ℕ) (start end : ℕ) (ws : List ℕ) → part line start end ≡ value → is_good (words_of k ch value start end) ≡ true
       → Told k ch value (words_of k ch value start end) ws
@@ -117,16 +116,16 @@ module _ (line : List ℕ) where
   told kind.Literal ch value start end ws p h = let z : ◌≡◌ {A = ℕ} 0 1 = cc in absurd (omega arith)
   told kind.Number ch value start end ws p h = go (decimal_of value) refl h
     where
-      go : (r : Number) → decimal_of value ≡ r → is_good (number_words r) ≡ true → Told kind.Number ch value (number_words r) ws
-      go (number.Value v) e h = (number_text value e, refl)
-      go number.Bad e h = let z : ◌≡◌ {A = ℕ} 0 1 = cc in absurd (omega arith)
+      go : (r : Option ℕ) → decimal_of value ≡ r → is_good (number_words r) ≡ true → Told kind.Number ch value (number_words r) ws
+      go (Some v) e h = (number_text value e, refl)
+      go None e h = let z : ◌≡◌ {A = ℕ} 0 1 = cc in absurd (omega arith)
   told kind.Maybe ch value start end ws p h = told_maybe ch value ws h
   told kind.Pair ch value start end ws p h = told_pair ch value ws h
   told kind.Bytes ch value start end ws p h = go (is_word (ascii "-") value) refl (eqb (length value) 0) refl (is_hexadecimal value) refl h
     where
       go : (t : Bool) → is_word (ascii "-") value ≡ t → (u : Bool) → eqb (length value) 0 ≡ u → (v : Bool) → is_hexadecimal value ≡ v
-          → is_good (pick t (words.Two start start) (pick u words.Bad (pick v (words.Two start end) words.Bad))) ≡ true
-          → Told kind.Bytes ch value (pick t (words.Two start start) (pick u words.Bad (pick v (words.Two start end) words.Bad))) ws
+          → is_good (pick t (Some (words.Two start start)) (pick u None (pick v (Some (words.Two start end)) None))) ≡ true
+          → Told kind.Bytes ch value (pick t (Some (words.Two start start)) (pick u None (pick v (Some (words.Two start end)) None))) ws
       go true e u f v g h = (none, refl)
         where
           none : bytes_text (bytes_of (part line start start)) ≡ value
@@ -141,7 +140,7 @@ module _ (line : List ℕ) where
 
   -- ---- a line
 
-  pub parted : (w : Words) (r : Reading (List ℕ)) (ws : List ℕ) → followed w r ≡ Good ws
+  pub parted : (w : Option Words) (r : Reading (List ℕ)) (ws : List ℕ) → followed w r ≡ Good ws
       → (is_good w ≡ true) × (vs : List ℕ) × (r ≡ Good vs) × (listed w ++ vs ≡ ws)
   parted w r ws h = go (is_good w) refl r h
     where

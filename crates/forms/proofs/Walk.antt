@@ -8,6 +8,7 @@ use lib.Dec.{eqb, ltb}
 use lib.ListN.{length, take, drop, get_or, length-drop, drop_of_length-le}
 use lib.Seq.{drop-drop}
 use borrow.Author.Tests.{eq-eqb, ne_eqb, ltb-true, ltb-false}
+use Rattle.std.specs.Prelude.{Option}
 use Rattle.prelude.specs.Choice.{pick, no}
 use Rattle.text.specs.Words.{begins, length_before}
 use Rattle.text.specs.Printed.{printed}
@@ -31,7 +32,7 @@ value_fits line i {n} h e =
     let q : n ≡ length_before 32 (drop i line) = e ∙ ap (length_before 32) (rest_of line i) in
     omega (arith, before_within 32 (drop i line), length-drop i line)
 
-pub put : {o : List ℕ} {p : ℕ} {x : List ℕ} {q : ℕ} {w v : Words} → w ≡ v → Laid o p (listed v) x q → Laid o p (listed w) x q
+pub put : {o : List ℕ} {p : ℕ} {x : List ℕ} {q : ℕ} {w v : Option Words} → w ≡ v → Laid o p (listed v) x q → Laid o p (listed w) x q
 put e l = rw e l
 
 -- ---- the form behind a mark
@@ -146,7 +147,7 @@ module _ {form line before : List ℕ} {f i : ℕ} {got : List ℕ} {n : ℕ} (w
         stored = stored;
       }
 
-  module _ {k : Kind} {m p : ℕ} {v : Words} (ek : k ≡ kind_of (get_or form f 0)) (l : is_literal k ≡ false) (hi : i ≤ length line)
+  module _ {k : Kind} {m p : ℕ} {v : Option Words} (ek : k ≡ kind_of (get_or form f 0)) (l : is_literal k ≡ false) (hi : i ≤ length line)
       (em : m ≡ length_before 32 (take (length line - i) (drop i line)))
       (ep : p ≡ choice_length k (take (length form - (f + 1)) (drop (f + 1) form)))
       (ev : v ≡ words_of k (take (f + 1 + p - (f + 1)) (drop (f + 1) form)) (take (i + m - i) (drop i line)) i (i + m)) where

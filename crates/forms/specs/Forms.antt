@@ -1,14 +1,12 @@
 -- How a line is read by its form (RULES.md, sections 12.2 and 12.3). A form is a line's own text with a mark in place of each value:
 -- `#` a number, `*` a number or `none`, `:` a pair or `none`, `%` bytes, `(a/b/c)` one of the words a, b, c. Any other byte stands
 -- for itself. A value goes up to the next space, 32, or the line's end.
-use Rattle.std.specs.Prelude.{ℕ, suc, ◌+◌, ◌≡◌, List, [], ◌∷◌, ◌++◌, Bool, true, false, length, take, drop, eqb, leb, ltb}
+use Rattle.std.specs.Prelude.{ℕ, suc, ◌+◌, ◌≡◌, List, [], ◌∷◌, ◌++◌, Bool, true, false, length, take, drop, eqb, leb, ltb, None, Option, Some}
 use Rattle.prelude.specs.Choice.{pick, no}
 use Rattle.text.specs.Words.{ascii, begins, is_word, length_before}
 use Rattle.text.specs.Decimal.{decimal_of}
 use Rattle.text.specs.Hexadecimal.{is_hexadecimal}
 use Rattle.text.specs.Printed.{printed}
-use Rattle.text.specs.declared.Number.{Number}
-use Rattle.text.specs.declared.Number.TheVariants as number
 use Rattle.forms.specs.declared.Kind.{Kind}
 use Rattle.forms.specs.declared.Kind.TheVariants as kind
 use Rattle.forms.specs.declared.Words.{Words}
@@ -66,61 +64,59 @@ split (b ∷ s) = pick (eqb b 47) ([] ∷ split s) (on_first b (split s))
 
 -- ---- a value's words: the numbers that it is handed out as
 
-abbrev pub number_words : Number → Words
-number_words (number.Value v) = words.One v
-number_words number.Bad = words.Bad
+abbrev pub number_words : Option ℕ → Option Words
+number_words (Some v) = Some (words.One v)
+number_words None = None
 
 -- a number, or `none`
-abbrev pub some_words : Number → Words
-some_words (number.Value v) = words.Two 1 v
-some_words number.Bad = words.Bad
+abbrev pub some_words : Option ℕ → Option Words
+some_words (Some v) = Some (words.Two 1 v)
+some_words None = None
 
-unfoldable pub maybe_words : List ℕ → Words
-maybe_words value = pick (is_word (ascii "none") value) (words.Two 0 0) (some_words (decimal_of value))
+unfoldable pub maybe_words : List ℕ → Option Words
+maybe_words value = pick (is_word (ascii "none") value) (Some (words.Two 0 0)) (some_words (decimal_of value))
 
 -- two numbers with a colon, 58, between, or `none`
-abbrev pub both_words : Number → Number → Words
-both_words (number.Value a) (number.Value b) = words.Three 1 a b
-both_words (number.Value a) number.Bad = words.Bad
-both_words number.Bad b = words.Bad
+abbrev pub both_words : Option ℕ → Option ℕ → Option Words
+both_words (Some a) (Some b) = Some (words.Three 1 a b)
+both_words (Some a) None = None
+both_words None b = None
 
-abbrev pub words_by : ℕ → List ℕ → Words
+abbrev pub words_by : ℕ → List ℕ → Option Words
 words_by colon value =
-    pick (leb (length value) colon) words.Bad (both_words (decimal_of (take colon value)) (decimal_of (drop (colon + 1) value)))
+    pick (leb (length value) colon) None (both_words (decimal_of (take colon value)) (decimal_of (drop (colon + 1) value)))
 
-unfoldable pub pair_words : List ℕ → Words
-pair_words value = pick (is_word (ascii "none") value) (words.Three 0 0 0) (words_by (length_before 58 value) value)
+unfoldable pub pair_words : List ℕ → Option Words
+pair_words value = pick (is_word (ascii "none") value) (Some (words.Three 0 0 0)) (words_by (length_before 58 value) value)
 
 -- where the digits start and end in the line
-abbrev pub bytes_words : List ℕ → ℕ → ℕ → Words
+abbrev pub bytes_words : List ℕ → ℕ → ℕ → Option Words
 bytes_words value start end =
-    pick (is_word (ascii "-") value) (words.Two start start)
-    (pick (eqb (length value) 0) words.Bad (pick (is_hexadecimal value) (words.Two start end) words.Bad))
+    pick (is_word (ascii "-") value) (Some (words.Two start start))
+    (pick (eqb (length value) 0) None (pick (is_hexadecimal value) (Some (words.Two start end)) None))
 
 -- which of the words it is
-unfoldable pub which_word : ℕ → List (List ℕ) → List ℕ → Words
-which_word k [] value = words.Bad
-which_word k (w ∷ ws) value = pick (is_word w value) (words.One k) (which_word (suc k) ws value)
+unfoldable pub which_word : ℕ → List (List ℕ) → List ℕ → Option Words
+which_word k [] value = None
+which_word k (w ∷ ws) value = pick (is_word w value) (Some (words.One k)) (which_word (suc k) ws value)
 
-unfoldable pub words_of : Kind → List ℕ → List ℕ → ℕ → ℕ → Words
-words_of kind.Literal ch value start end = words.Bad
+unfoldable pub words_of : Kind → List ℕ → List ℕ → ℕ → ℕ → Option Words
+words_of kind.Literal ch value start end = None
 words_of kind.Number ch value start end = number_words (decimal_of value)
 words_of kind.Maybe ch value start end = maybe_words value
 words_of kind.Pair ch value start end = pair_words value
 words_of kind.Bytes ch value start end = bytes_words value start end
 words_of kind.Choice ch value start end = which_word 0 (split ch) value
 
-abbrev pub listed : Words → List ℕ
-listed (words.One a) = a ∷ []
-listed (words.Two a b) = a ∷ b ∷ []
-listed (words.Three a b c) = a ∷ b ∷ c ∷ []
-listed words.Bad = []
+abbrev pub listed : Option Words → List ℕ
+listed (Some (words.One a)) = a ∷ []
+listed (Some (words.Two a b)) = a ∷ b ∷ []
+listed (Some (words.Three a b c)) = a ∷ b ∷ c ∷ []
+listed None = []
 
-abbrev pub is_good : Words → Bool
-is_good (words.One a) = true
-is_good (words.Two a b) = true
-is_good (words.Three a b c) = true
-is_good words.Bad = false
+abbrev pub is_good : Option Words → Bool
+is_good (Some w) = true
+is_good None = false
 
 -- ---- a line
 
@@ -132,7 +128,7 @@ abbrev pub prepend : List ℕ → Reading (List ℕ) → Reading (List ℕ)
 prepend ws (Good vs) = Good (ws ++ vs)
 prepend ws Bad = Bad
 
-abbrev pub followed : Words → Reading (List ℕ) → Reading (List ℕ)
+abbrev pub followed : Option Words → Reading (List ℕ) → Reading (List ℕ)
 followed w rest = pick (is_good w) (prepend (listed w) rest) Bad
 
 -- the line's bytes s, from a place on, by the rest of a form; within the words of a choice the form goes on behind their `)`

@@ -1,5 +1,5 @@
 -- What a form means: the text of its values, and which values a form has (RULES.md, section 12.3).
-use Rattle.std.specs.Prelude.{ℕ, ◌+◌, ◌-◌, ◌≤◌, ◌≡◌, List, [], ◌∷◌, ◌++◌, Bool, true, false, length, take, drop, get_or, eqb}
+use Rattle.std.specs.Prelude.{ℕ, ◌+◌, ◌-◌, ◌≤◌, ◌≡◌, List, [], ◌∷◌, ◌++◌, Bool, true, false, length, take, drop, get_or, eqb, Some}
 use Rattle.prelude.specs.Choice.{pick, no, both}
 use Rattle.text.specs.Words.{ascii, length_before}
 use Rattle.prelude.specs.Numbers.{max_u64}
@@ -74,7 +74,7 @@ InRange ch absent = Unit
 InRange ch (pair a b) = (a ≤ max_u64) × (b ≤ max_u64)
 InRange ch unpaired = Unit
 InRange ch (bytes s) = Bytes s
-InRange ch (word k) = (which_word 0 (split ch) (word_at ch k) ≡ words.One k) × (length_before 32 (word_at ch k) ≡ length (word_at ch k))
+InRange ch (word k) = (which_word 0 (split ch) (word_at ch k) ≡ Some (words.One k)) × (length_before 32 (word_at ch k) ≡ length (word_at ch k))
 
 abbrev pub FirstFits : Kind → List ℕ → List Value → Type 0
 FirstFits k ch [] = ⊥

@@ -1,14 +1,12 @@
 // Lines whose form is data: one reader and one printer for every form.
 #![tactic(auto)]
 
-ghost use Rattle.std.specs.Prelude.{◌≡◌, true, false, ◌∷◌, [], ◌+◌, ◌≤◌, min, take, get_or};
+ghost use Rattle.std.specs.Prelude.{◌≡◌, true, false, ◌∷◌, [], ◌+◌, ◌≤◌, min, take, get_or, Some};
 ghost use Rattle.text.specs.Printed.{printed, behind};
 ghost use Rattle.text.specs.Decimal.{decimal_of};
-ghost use Rattle.forms.specs.Forms.{kind_of, is_literal, choice_length, behind_choice, literals, split, number_words, maybe_words, pair_words, bytes_words, which_word, words_of, listed, is_good, is_read, read_form, Stored};
+ghost use Rattle.forms.specs.Forms.{kind_of, is_literal, choice_length, behind_choice, literals, split, number_words, maybe_words, pair_words, bytes_words, which_word, words_of, listed, is_read, read_form, Stored};
 ghost use Rattle.text.specs.Hexadecimal.{bytes_text};
 ghost use Rattle.forms.specs.Texts.{Value, word_at, maybe_text, pair_text, value_text, text, width, value_in, values_in, part};
-
-use text::Number;
 
 // What a byte of a form stands for: itself, or a value.
 #[derive(Clone, Copy)]
@@ -21,41 +19,24 @@ pub enum Kind {
     Choice,
 }
 
+#[tactic(auto, unfolding(crate::specs::Forms::kind_of))]
 fn kind_of(b: u8) -> Kind
     ensures { result ≡ kind_of b }
 {
-    if b'<' < b {
-        return Kind::Literal;
+    match b {
+        b'#' => Kind::Number,
+        b'*' => Kind::Maybe,
+        b':' => Kind::Pair,
+        b'%' => Kind::Bytes,
+        b'(' => Kind::Choice,
+        _ => Kind::Literal,
     }
-    if b == b'#' {
-        return Kind::Number;
-    }
-    if b == b'*' {
-        return Kind::Maybe;
-    }
-    if b == b':' {
-        return Kind::Pair;
-    }
-    if b == b'%' {
-        return Kind::Bytes;
-    }
-    if b == b'(' {
-        return Kind::Choice;
-    }
-    Kind::Literal
 }
 
 fn is_literal(kind: Kind) -> bool
     ensures { result ≡ is_literal kind }
 {
-    match kind {
-        Kind::Literal => true,
-        Kind::Number => false,
-        Kind::Maybe => false,
-        Kind::Pair => false,
-        Kind::Bytes => false,
-        Kind::Choice => false,
-    }
+    matches!(kind, Kind::Literal)
 }
 
 // The numbers that a value is handed out as.
@@ -64,69 +45,68 @@ pub enum Words {
     One(u64),
     Two(u64, u64),
     Three(u64, u64, u64),
-    Bad,
 }
 
 // ---- reading
 
-fn number_words(value: &[u8]) -> Words
+fn number_words(value: &[u8]) -> Option<Words>
     ensures { result ≡ number_words (decimal_of value.now) }
 {
     match text::read_decimal(value) {
-        Number::Value(v) => Words::One(v),
-        Number::Bad => Words::Bad,
+        Some(v) => Some(Words::One(v)),
+        None => None,
     }
 }
 
-fn maybe_words(value: &[u8]) -> Words
+fn maybe_words(value: &[u8]) -> Option<Words>
     ensures { result ≡ maybe_words value.now }
 {
     if text::is_word(value, b"none") {
-        return Words::Two(0, 0);
+        return Some(Words::Two(0, 0));
     }
     match text::read_decimal(value) {
-        Number::Value(v) => Words::Two(1, v),
-        Number::Bad => Words::Bad,
+        Some(v) => Some(Words::Two(1, v)),
+        None => None,
     }
 }
 
-fn pair_words(value: &[u8]) -> Words
+fn pair_words(value: &[u8]) -> Option<Words>
     ensures { result ≡ pair_words value.now }
 {
     if text::is_word(value, b"none") {
-        return Words::Three(0, 0, 0);
+        return Some(Words::Three(0, 0, 0));
     }
     let n = text::length_before(value, b':');
     if value.len() <= n {
-        return Words::Bad;
+        return None;
     }
-    let Number::Value(first) = text::read_decimal(&value[..n]) else {
-        return Words::Bad;
+    let Some(first) = text::read_decimal(&value[..n]) else {
+        return None;
     };
-    let Number::Value(second) = text::read_decimal(&value[n + 1..]) else {
-        return Words::Bad;
+    let Some(second) = text::read_decimal(&value[n + 1..]) else {
+        return None;
     };
-    Words::Three(1, first, second)
+    Some(Words::Three(1, first, second))
 }
 
 // Where the digits stand in the line; nowhere for `-`.
-fn bytes_words(value: &[u8], start: usize, end: usize) -> Words
+fn bytes_words(value: &[u8], start: usize, end: usize) -> Option<Words>
     ensures { result ≡ bytes_words value.now start end }
 {
     if text::is_word(value, b"-") {
-        return Words::Two(start as u64, start as u64);
+        return Some(Words::Two(start as u64, start as u64));
     }
     if value.len() == 0 {
-        return Words::Bad;
+        return None;
     }
     if text::is_hexadecimal(value) {
-        return Words::Two(start as u64, end as u64);
+        return Some(Words::Two(start as u64, end as u64));
     }
-    Words::Bad
+    None
 }
 
 // Which of the words between slashes a value is.
-fn choice_words(choice: &[u8], value: &[u8]) -> Words
+fn choice_words(choice: &[u8], value: &[u8]) -> Option<Words>
     ensures { result ≡ which_word 0 (split choice.now) value.now }
 {
     let mut k: u64 = 0;
@@ -135,21 +115,22 @@ fn choice_words(choice: &[u8], value: &[u8]) -> Words
         let n = text::length_before(&choice[w..], b'/');
         let e = w + n;
         if text::is_word(value, &choice[w..e]) {
-            return Words::One(k);
+            return Some(Words::One(k));
         }
         if choice.len() <= e {
-            return Words::Bad;
+            return None;
         }
         w = e + 1;
         k += 1;
     }
 }
 
-fn value_words(kind: Kind, choice: &[u8], value: &[u8], start: usize, end: usize) -> Words
+#[tactic(auto, unfolding(crate::specs::Forms::words_of))]
+fn value_words(kind: Kind, choice: &[u8], value: &[u8], start: usize, end: usize) -> Option<Words>
     ensures { result ≡ words_of kind choice.now value.now start end }
 {
     match kind {
-        Kind::Literal => Words::Bad,
+        Kind::Literal => None,
         Kind::Number => number_words(value),
         Kind::Maybe => maybe_words(value),
         Kind::Pair => pair_words(value),
@@ -170,8 +151,8 @@ fn put_word(v: u64, got: &mut [u64], n: usize) -> usize
 }
 
 fn put_words(w: Words, got: &mut [u64], n: usize) -> usize
-    ensures bytes { got.new ≡ printed got.old n (listed w) }
-    ensures place { result ≡ behind got.old n (listed w) }
+    ensures bytes { got.new ≡ printed got.old n (listed (Some w)) }
+    ensures place { result ≡ behind got.old n (listed (Some w)) }
 {
     match w {
         Words::One(a) => put_word(a, got, n),
@@ -184,18 +165,6 @@ fn put_words(w: Words, got: &mut [u64], n: usize) -> usize
             let m = put_word(b, got, m);
             put_word(c, got, m)
         }
-        Words::Bad => n,
-    }
-}
-
-fn is_good(w: Words) -> bool
-    ensures { result ≡ is_good w }
-{
-    match w {
-        Words::One(_) => true,
-        Words::Two(_, _) => true,
-        Words::Three(_, _, _) => true,
-        Words::Bad => false,
     }
 }
 
@@ -204,12 +173,8 @@ fn choice_length(kind: Kind, form: &[u8]) -> usize
     ensures { result ≡ choice_length kind form.now }
 {
     match kind {
-        Kind::Literal => 0,
-        Kind::Number => 0,
-        Kind::Maybe => 0,
-        Kind::Pair => 0,
-        Kind::Bytes => 0,
         Kind::Choice => text::length_before(form, b')'),
+        _ => 0,
     }
 }
 
@@ -218,12 +183,8 @@ fn behind_choice(kind: Kind, c: usize, size: usize) -> usize
     ensures { result ≡ behind_choice kind c size }
 {
     match kind {
-        Kind::Literal => c,
-        Kind::Number => c,
-        Kind::Maybe => c,
-        Kind::Pair => c,
-        Kind::Bytes => c,
-        Kind::Choice => { if c < size { c + 1 } else { c } }
+        Kind::Choice if c < size => c + 1,
+        _ => c,
     }
 }
 
@@ -252,12 +213,13 @@ pub fn read_form(form: &[u8], line: &[u8], got: &mut [u64]) -> bool
             let e = i + text::length_before(&line[i..], b' ');
             let c = g + choice_length(kind, &form[g..]);
             let w = value_words(kind, &form[g..c], &line[i..e], i, e);
-            n = put_words(w, got, n);
-            if is_good(w) {
-                i = e;
-                f = behind_choice(kind, c, form.len());
-            } else {
-                return false;
+            match w {
+                Some(words) => {
+                    n = put_words(words, got, n);
+                    i = e;
+                    f = behind_choice(kind, c, form.len());
+                }
+                None => return false,
             }
         }
     }

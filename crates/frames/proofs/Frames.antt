@@ -8,6 +8,7 @@ use native.Mathlib.Omega.{arith}
 use borrow.Author.Tests.{le-leb, lt-leb, ltb-true, ltb-false}
 use lib.Dec.{ltb, leb}
 use lib.ListN.{length, drop, replicate, length-append, length-replicate}
+use Rattle.std.specs.Prelude.{Err, Ok, Result, ℕ}
 use Rattle.prelude.specs.Lists.{count}
 use Rattle.prelude.specs.Choice.{pick, bit}
 use Rattle.refusal.specs.declared.Refusal.{Refusal}
@@ -20,7 +21,6 @@ use Rattle.wire.proofs.Listed.{All, read_back, unbroken}
 use Rattle.message.specs.Message.{over}
 use Rattle.message.specs.Encoding.{address_field, address_fields, message_bytes, frame_bytes, frame_encode_of, frame_encode_into}
 use Rattle.message.specs.declared.Kind.TheVariants.{Connect}
-use Rattle.message.specs.declared.Encoded.{Encoded}
 use Rattle.message.proofs.FieldList.{field_long, fields_more}
 use Rattle.message.proofs.Answers.{message_long}
 use Rattle.address.specs.Multiaddr.{longest4, longest6}
@@ -28,7 +28,6 @@ use Rattle.candidates.specs.Entries.{longer_than}
 use Rattle.candidates.specs.Selection.{usual, most}
 use Rattle.frames.specs.Sent.{frame_capacity, field_size, packed, connect_frame}
 use Rattle.frames.specs.declared.Framed.{Framed}
-use Rattle.message.specs.declared.Encoded.TheVariants as e
 
 -- ---- the encoder's answer, packed
 
@@ -38,9 +37,9 @@ rest_blank (suc k) zero x = let e : 0 - suc k ≡ 0 = omega arith in rw e
 rest_blank (suc k) (suc n) x = let e : suc n - suc k ≡ n - k = omega arith in rest_blank k n x ∙ rw e
 
 -- the answer and the buffer that the encoder leaves make a frame
-abbrev made : Encoded → List ℕ → Framed
-made (e.Message n) o = record { bytes = o; len = n }
-made (e.Refused w) o = record { bytes = o; len = 0 }
+abbrev made : Result ℕ Refusal → List ℕ → Framed
+made (Ok n) o = record { bytes = o; len = n }
+made (Err w) o = record { bytes = o; len = 0 }
 
 module _ (s : List ℕ) where
   abbrev m : List ℕ
@@ -57,7 +56,7 @@ module _ (s : List ℕ) where
   made_is = go (broken s) (ltb max_message_size (length m)) refl (ltb frame_capacity (length f)) refl
     where
       go : (p q : Bool) → ltb max_message_size (length m) ≡ q → (r : Bool) → ltb frame_capacity (length f) ≡ r
-          → made (pick p (e.Refused BrokenList) (pick q (e.Refused MessageTooLong) (pick r (e.Refused OutputTooShort) (e.Message (length f)))))
+          → made (pick p (Err BrokenList) (pick q (Err MessageTooLong) (pick r (Err OutputTooShort) (Ok (length f)))))
           (pick p (replicate frame_capacity 0) (pick q (replicate frame_capacity 0) (pick r (replicate frame_capacity 0) (over f (replicate frame_capacity 0)))))
           ≡ pick p (packed []) (pick (leb (length f) frame_capacity) (packed f) (packed []))
       go true q i r j = refl
@@ -69,17 +68,17 @@ module _ (s : List ℕ) where
       go false false i false j =
           rw (le-leb (length f) frame_capacity (ltb-false frame_capacity (length f) j), rest_blank (length f) frame_capacity 0)
 
-  module _ {r : Encoded} {o b : List ℕ} (z : b ≡ replicate frame_capacity 0) (a : r ≡ frame_encode_of Connect s (length b)) (i : o ≡ frame_encode_into Connect s b) where
+  module _ {r : Result ℕ Refusal} {o b : List ℕ} (z : b ≡ replicate frame_capacity 0) (a : r ≡ frame_encode_of Connect s (length b)) (i : o ≡ frame_encode_into Connect s b) where
     whole : made r o ≡ connect_frame s
     whole =
         let l : length b ≡ frame_capacity = ap length z ∙ length-replicate {A = ℕ} frame_capacity 0 in
         rw (a, i, l, z) made_is
 
-    pub connect_made : {n : ℕ} → r ≡ e.Message n → record { bytes = o; len = n } ≡ connect_frame s
-    connect_made g = sym (ap (λ (x : Encoded). made x o) g) ∙ whole
+    pub connect_made : {n : ℕ} → r ≡ Ok n → record { bytes = o; len = n } ≡ connect_frame s
+    connect_made g = sym (ap (λ (x : Result ℕ Refusal). made x o) g) ∙ whole
 
-    pub connect_refused : {w : Refusal} → r ≡ e.Refused w → record { bytes = o; len = 0 } ≡ connect_frame s
-    connect_refused g = sym (ap (λ (x : Encoded). made x o) g) ∙ whole
+    pub connect_refused : {w : Refusal} → r ≡ Err w → record { bytes = o; len = 0 } ≡ connect_frame s
+    connect_refused g = sym (ap (λ (x : Result ℕ Refusal). made x o) g) ∙ whole
 
 -- ---- how long CONNECT is
 

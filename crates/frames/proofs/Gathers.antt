@@ -106,6 +106,12 @@ ahead_all xs b n p i a h = ap (λ (g : Gathering). g.answer) (sym (none (drop i 
     none [] e = refl
     none (x ∷ l) e = absurd (omega arith)
 
+-- a frame that is whole or broken ends the gathering
+no_more : (f : Frame) → (f ≡ More → ⊥) → (b : List ℕ) (n : ℕ) (rest : Gathering) → judged f b n rest ≡ ends b n f
+no_more More g b n rest = absurd (g refl)
+no_more (Whole start len) g b n rest = refl
+no_more Broken g b n rest = refl
+
 module _ (xs b : List ℕ) (n p i : ℕ) (a : Ahead xs b n p i) (h : i < length xs) where
   turn : gathering (drop i xs) (stored xs b n i) p
       ≡ pick (leb (length b) p) (ends (stored xs b n i) p Broken)
@@ -140,15 +146,8 @@ module _ (xs b : List ℕ) (n p i : ℕ) (a : Ahead xs b n p i) (h : i < length 
         let t : gathering xs b n ≡ gathering (drop (i + 1) xs) (stored xs b n (i + 1)) (p + 1) = on ∙ rw g in
         record { inside = omega arith; place = omega (arith, a.place); same = sym t }
 
-    pub ahead_whole : {start len : ℕ} → f ≡ Whole start len → record { count = p + 1; frame = Whole start len } ≡ gathered xs b n
-    ahead_whole {start} {len} g =
-        let t : gathering xs b n ≡ ends (stored xs b n (i + 1)) (p + 1) (Whole start len) = on ∙ rw g in
-        ap (λ (x : Gathering). x.answer) (sym t)
-
-    pub ahead_broken : f ≡ Broken → record { count = p + 1; frame = Broken } ≡ gathered xs b n
-    ahead_broken g =
-        let t : gathering xs b n ≡ ends (stored xs b n (i + 1)) (p + 1) Broken = on ∙ rw g in
-        ap (λ (x : Gathering). x.answer) (sym t)
+    pub ahead_ends : (f ≡ More → ⊥) → record { count = p + 1; frame = f } ≡ gathered xs b n
+    ahead_ends g = ap (λ (x : Gathering). x.answer) (sym (on ∙ no_more f g (stored xs b n (i + 1)) (p + 1) (gathering (drop (i + 1) xs) (stored xs b n (i + 1)) (p + 1))))
 
 -- ---- what is stored
 

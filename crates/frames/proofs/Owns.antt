@@ -7,6 +7,7 @@ use Prim.Native.Nat.{ℕ, ◌-◌, ◌≤◌}
 use native.Mathlib.Omega.{arith}
 use borrow.Author.Tests.{le-leb}
 use lib.ListN.{length, replicate, length-append}
+use Rattle.std.specs.Prelude.{Err, Ok}
 use Rattle.wire.specs.Lists.{entries, broken, listed}
 use Rattle.message.specs.declared.Kind.TheVariants.{Connect}
 use Rattle.message.specs.Encoding.{frame_bytes}
@@ -19,7 +20,6 @@ use Rattle.candidates.specs.declared.Limits.{Limits}
 use Rattle.candidates.specs.declared.Selection.{Selection}
 use Rattle.candidates.proofs.Answers.{held_small}
 use Rattle.candidates.proofs.Promises.{own_short, own_limits, own_list}
-use Rattle.vocabulary.specs.declared.Outcome.TheVariants.{Accepted, Refused}
 use Rattle.refusal.specs.declared.Refusal.{Refusal}
 use Rattle.refusal.specs.declared.Refusal.TheVariants as Refusal·
 
@@ -35,29 +35,29 @@ own_fits l list h e =
 
 -- of the selection from an own list
 module _ (l : Limits) (list : List ℕ) {s : Selection} (e : s ≡ answered list (own (held l) (entries list))) where
-  pub own_broken : {w : Refusal} {f : Framed} → s.outcome ≡ Refused w → f ≡ frame.packed [] → f ≡ own_connect l list
+  pub own_broken : {w : Refusal} {f : Framed} → s.outcome ≡ Err w → f ≡ frame.packed [] → f ≡ own_connect l list
   unfolding answered own_connect
   own_broken {w} {f} g h = go (broken list) refl (sym (ap (λ (x : Selection). x.outcome) e) ∙ g)
     where
-      go : (t : Bool) → broken list ≡ t → (answered list (own (held l) (entries list))).outcome ≡ Refused w → f ≡ own_connect l list
+      go : (t : Bool) → broken list ≡ t → (answered list (own (held l) (entries list))).outcome ≡ Err w → f ≡ own_connect l list
       go true i j = rw i h
-      go false i j = absurd (let k : Accepted ≡ Refused w = rw i at j in let z : ◌≡◌ {A = ℕ} 0 1 = cc in omega arith)
+      go false i j = absurd (let k : Ok tt ≡ Err w = rw i at j in let z : ◌≡◌ {A = ℕ} 0 1 = cc in omega arith)
 
-  kept_is : s.outcome ≡ Accepted → (broken list ≡ false) × (s.chosen ≡ packed (listed (own (held l) (entries list))))
+  kept_is : s.outcome ≡ Ok tt → (broken list ≡ false) × (s.chosen ≡ packed (listed (own (held l) (entries list))))
   unfolding answered
   kept_is g = go (broken list) refl (sym (ap (λ (x : Selection). x.outcome) e) ∙ g) (ap (λ (x : Selection). x.chosen) e)
     where
-      go : (t : Bool) → broken list ≡ t → (answered list (own (held l) (entries list))).outcome ≡ Accepted → s.chosen ≡ (answered list (own (held l) (entries list))).chosen
+      go : (t : Bool) → broken list ≡ t → (answered list (own (held l) (entries list))).outcome ≡ Ok tt → s.chosen ≡ (answered list (own (held l) (entries list))).chosen
           → (broken list ≡ false) × (s.chosen ≡ packed (listed (own (held l) (entries list))))
-      go true i j k = absurd (let m : Refused Refusal·.BrokenList ≡ Accepted = rw i at j in let z : ◌≡◌ {A = ℕ} 0 1 = cc in omega arith)
+      go true i j k = absurd (let m : Err Refusal·.BrokenList ≡ Ok tt = rw i at j in let z : ◌≡◌ {A = ℕ} 0 1 = cc in omega arith)
       go false i j k = (i, rw i at k)
 
-  pub own_within : s.outcome ≡ Accepted → s.chosen.len ≤ length s.chosen.bytes
+  pub own_within : s.outcome ≡ Ok tt → s.chosen.len ≤ length s.chosen.bytes
   own_within g =
       rw (kept_is g).1
       (omega (arith, length-append (listed (own (held l) (entries list))) (replicate (capacity - length (listed (own (held l) (entries list)))) 0)))
 
-  pub own_kept : s.outcome ≡ Accepted → {f : Framed} → f ≡ chosen_connect s.chosen → f ≡ own_connect l list
+  pub own_kept : s.outcome ≡ Ok tt → {f : Framed} → f ≡ chosen_connect s.chosen → f ≡ own_connect l list
   unfolding own_connect chosen_connect connect_frame
   own_kept g {f} h =
       let w = own_list (held l) (entries list) in

@@ -14,8 +14,7 @@ ghost use Rattle.frames.specs.Sent.{frame_capacity, packed, connect_frame, sync_
 ghost use Rattle.frames.specs.Gathering.{gathered, gathered_into, frame_byte};
 
 use candidates::{Chosen, Limits};
-use message::{Encoded, Kind};
-use vocabulary::Outcome;
+use message::Kind;
 use wire::Frame;
 
 // ---- Frames that go out
@@ -55,17 +54,17 @@ pub fn size(bytes: &[u8]) -> usize
 // How long a frame's bytes are: a fact for the proofs.
 pub fn known(bytes: &FrameBytes)
     ensures { length bytes.now ≡ frame_capacity }
-{
-    size(bytes);
-}
+{}
 
 impl Framed {
     // No frame.
     pub fn empty() -> Self
         ensures { result ≡ packed [] }
     {
-        let bytes = blank();
-        Framed { bytes, len: 0 }
+        Framed {
+            bytes: blank(),
+            len: 0,
+        }
     }
 }
 
@@ -75,8 +74,8 @@ pub fn connect_frame(own: &[u8]) -> Framed
 {
     let mut bytes = blank();
     match message::encode_frame(Kind::Connect, own, &mut bytes) {
-        Encoded::Message(len) => Framed { bytes, len },
-        Encoded::Refused(_) => Framed { bytes, len: 0 },
+        Ok(len) => Framed { bytes, len },
+        Err(_) => Framed { bytes, len: 0 },
     }
 }
 
@@ -98,9 +97,7 @@ fn connect_of(chosen: Chosen) -> Framed
     requires { chosen.len ≤ length chosen.bytes }
     ensures { result ≡ chosen_connect chosen }
 {
-    let bytes = chosen.bytes;
-    let len = chosen.len;
-    connect_frame(&bytes[..len])
+    connect_frame(&chosen.bytes[..chosen.len])
 }
 
 // The framed CONNECT with the candidates of an own list; empty for a broken list, or where limits above the usual ones leave it no
@@ -109,15 +106,9 @@ pub fn own_connect(list: &[u8], limits: Limits) -> Framed
     ensures { result ≡ own_connect limits list.now }
 {
     let selection = candidates::own_punch_candidates(list, limits);
-    let outcome = selection.outcome;
-    match outcome {
-        Outcome::Refused(_) => {
-            return Framed::empty();
-        }
-        Outcome::Accepted => {
-            let chosen = selection.chosen;
-            return connect_of(chosen);
-        }
+    match selection.outcome {
+        Err(_) => Framed::empty(),
+        Ok(()) => connect_of(selection.chosen),
     }
 }
 
@@ -154,8 +145,7 @@ pub fn look_ahead(input: &[u8], buffer: &[u8], count: usize) -> Gathered
     let first = frame_byte(input, buffer, count, 0);
     let second = frame_byte(input, buffer, count, 1);
     let mut n = count;
-    let mut i: usize = 0;
-    while i < input.len() {
+    for _byte in input {
         if buffer.len() <= n {
             return Gathered {
                 count: n,
@@ -163,24 +153,9 @@ pub fn look_ahead(input: &[u8], buffer: &[u8], count: usize) -> Gathered
             };
         }
         n += 1;
-        i += 1;
         match wire::frame_from(first, second, n) {
             Frame::More => {}
-            Frame::Whole { start, len } => {
-                return Gathered {
-                    count: n,
-                    frame: Frame::Whole {
-                        start: start,
-                        len: len,
-                    },
-                };
-            }
-            Frame::Broken => {
-                return Gathered {
-                    count: n,
-                    frame: Frame::Broken,
-                };
-            }
+            frame => return Gathered { count: n, frame },
         }
     }
     Gathered {

@@ -6,6 +6,7 @@ use mathlib.Core.List.{List, [], ◌∷◌}
 use Prim.Native.Nat.{ℕ}
 use lib.Dec.{ltb}
 use lib.ListN.{length}
+use Rattle.std.specs.Prelude.{Err, Ok, Result, ⊤}
 use Rattle.prelude.specs.Choice.{pick}
 use Rattle.ids.specs.declared.PeerId.{PeerId}
 use Rattle.ids.specs.declared.ConnectionId.{ConnectionId}
@@ -18,8 +19,6 @@ use Rattle.ledger.specs.Ledger.{PathLedger}
 use Rattle.vocabulary.specs.declared.Settings.{Settings}
 use Rattle.inbound.specs.declared.InboundCircuit.{InboundCircuit}
 use Rattle.circuit.specs.declared.state.Phase.{Phase}
-use Rattle.vocabulary.specs.declared.Outcome.{Outcome}
-use Rattle.vocabulary.specs.declared.Outcome.TheVariants.{Accepted, Refused}
 use Rattle.circuit.specs.declared.state.Core.{Core}
 use Rattle.circuit.specs.declared.decision.Decision.{Decision}
 use Rattle.circuit.specs.Decisions.{silence, event_of, decided_of, quiet_of, refused_of}
@@ -40,6 +39,7 @@ use Rattle.history.proofs.Run.{begun_rel}
 use Rattle.history.proofs.Refuses.{step_turned, next_rel}
 use Rattle.history.proofs.Told.{Follows, refused_follows, tick_follows, up_follows}
 use Rattle.history.proofs.ToldInput.{input_follows}
+use Rattle.refusal.specs.declared.Refusal.{Refusal}
 
 -- a call, whether it was refused, and what is told of it if not
 pub record Answers (k : Begun) (c : InboundCircuit) (x : Call) (w : Told) (v : Bool) : Type 0 where
@@ -48,11 +48,11 @@ pub record Answers (k : Begun) (c : InboundCircuit) (x : Call) (w : Told) (v : B
   pub room : Noted k.source x (pick v nothing w).lot
 
 module _ (source : PeerId) (l : PathLedger) (m : Framed) (t : Chosen) (own : List ℕ) (chosen : Chosen) (c : Core) (w : Told) where
-  checked : (d : Decision) → Follows source l (made m t own chosen d) w → (y : Outcome) → Follows source l (made m t own chosen (unless c d y)) w
-  checked d h Accepted = h
-  checked d h (Refused why) = refused_follows source l m t own chosen c why w
+  checked : (d : Decision) → Follows source l (made m t own chosen d) w → (y : Result ⊤ Refusal) → Follows source l (made m t own chosen (unless c d y)) w
+  checked d h (Ok tt) = h
+  checked d h (Err why) = refused_follows source l m t own chosen c why w
 
-  checked_input : (short : Bool) (d : Decision) → Follows source l (made m t own chosen d) w → (y : Outcome)
+  checked_input : (short : Bool) (d : Decision) → Follows source l (made m t own chosen d) w → (y : Result ⊤ Refusal)
       → Follows source l (made m t own chosen (pick short (refused_of c ReplyBufferTooShort) (unless c d y))) w
   checked_input true d h y = refused_follows source l m t own chosen c ReplyBufferTooShort w
   checked_input false d h y = checked d h y

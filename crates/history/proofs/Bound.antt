@@ -9,6 +9,7 @@ use native.Mathlib.Omega.{arith}
 use borrow.Author.Tests.{ltb-true}
 use lib.Dec.{ltb, eqb}
 use lib.ListN.{length, length-append}
+use Rattle.std.specs.Prelude.{None, Option, Some}
 use Rattle.time.specs.Time.{last}
 use Rattle.prelude.specs.Choice.{pick, both}
 use Rattle.ids.specs.declared.PeerId.{PeerId}
@@ -20,8 +21,6 @@ use Rattle.candidates.specs.Selection.{selected}
 use Rattle.candidates.proofs.Promises.{selection_limits}
 use Rattle.vocabulary.specs.declared.Settings.{Settings}
 use Rattle.vocabulary.specs.declared.Host.{Host}
-use Rattle.vocabulary.specs.declared.Offer.{Offer}
-use Rattle.vocabulary.specs.declared.Offer.TheVariants as offer
 use Rattle.vocabulary.specs.declared.StreamInput.{StreamInput}
 use Rattle.vocabulary.specs.declared.StreamInput.TheVariants as i
 use Rattle.circuit.specs.declared.state.ConnectWrite.{ConnectWrite}
@@ -99,9 +98,9 @@ module _ (b : Book) (most : b.rounds ≤ 3) (le : length (windows b) ≤ b.round
   wanting_fine : (s : Settings) (who : Who) (h : Host) (own : List ℕ) → Fine (wanted s who h own b)
   wanting_fine s who h own = go (is_circuit who h.live) (ltb b.rounds 3) refl (ltb h.at b.deadline) h.offer
     where
-      go : (x y : Bool) → ltb b.rounds 3 ≡ y → (z : Bool) (o : Offer) → Fine (pick (both x (both y z)) (begins s h own b o) (closed b))
-      go true true e true offer.Nothing = closing_fine
-      go true true e true (offer.Stream conn stream) =
+      go : (x y : Bool) → ltb b.rounds 3 ≡ y → (z : Bool) (o : Option (ConnectionId × StreamId)) → Fine (pick (both x (both y z)) (begins s h own b o) (closed b))
+      go true true e true None = closing_fine
+      go true true e true (Some (conn, stream)) =
           record { most = omega (arith, ltb-true b.rounds 3 e); room = omega arith; short = rw (append-nil (windows b)) short }
       go true true e false o = closing_fine
       go true false e z o = closing_fine

@@ -3,6 +3,7 @@
 use mathlib.Core.Path.{◌≡◌, refl, sym, ap, ◌∙◌, subst}
 use mathlib.Core.List.{List, [], ◌∷◌}
 use Prim.Native.Nat.{ℕ}
+use Rattle.std.specs.Prelude.{Err, Ok, Result, ⊤}
 use Rattle.prelude.specs.Choice.{pick}
 use Rattle.ids.specs.declared.StreamId.{StreamId}
 use Rattle.budget.specs.declared.UpgradeBudget.{UpgradeBudget}
@@ -12,8 +13,6 @@ use Rattle.frames.specs.Gathering.{gathered_into}
 use Rattle.vocabulary.specs.declared.Host.{Host}
 use Rattle.vocabulary.specs.declared.StreamInput.{StreamInput}
 use Rattle.vocabulary.specs.declared.StreamInput.TheVariants as i
-use Rattle.vocabulary.specs.declared.Outcome.{Outcome}
-use Rattle.vocabulary.specs.declared.Outcome.TheVariants.{Accepted, Refused}
 use Rattle.circuit.specs.declared.state.Phase.{Phase}
 use Rattle.circuit.specs.declared.state.ConnectWrite.{ConnectWrite}
 use Rattle.circuit.specs.declared.state.ConnectWrite.TheVariants.{Unsent, Held, Sent}
@@ -33,6 +32,7 @@ use Rattle.history.proofs.Made.{framed_in, chosen_in}
 use Rattle.history.proofs.Relation.{Begun, whose, core_of, circuit_of, Together, in_handshake, in_exchange_lem, in_window, at_end, Rel}
 use Rattle.history.proofs.Run.{begun_rel}
 use Rattle.history.proofs.Refuses.{ends_first, step_turned, next_rel}
+use Rattle.refusal.specs.declared.Refusal.{Refusal}
 
 went_same : (w : ConnectWrite) → inputs.went_out w ≡ went_out w
 went_same Unsent = refl
@@ -58,12 +58,12 @@ module _ (k : Begun) (g : UpgradeBudget) (m : Framed) (t : Chosen) (h : Host) (d
   awaits_same p stage (in_window closes q w x) = refl
   awaits_same p stage (at_end promoted) = refl
 
-  input_gives : (o : Outcome) (p : Phase) (stage : Stage) → Together k.settings g m t deadline rounds p stage
+  input_gives : (o : Result ⊤ Refusal) (p : Phase) (stage : Stage) → Together k.settings g m t deadline rounds p stage
       → buffer_after (core_of k p g m.len t.len) h.at lent stream kind bytes o ≡ pick (is_refused o) lent
       (gathers h lent stream kind bytes stage)
   unfolding buffer_after
-  input_gives Accepted p stage r = awaits_same p stage r
-  input_gives (Refused why) p stage r = refl
+  input_gives (Ok tt) p stage r = awaits_same p stage r
+  input_gives (Err why) p stage r = refl
 
 call_gives : (k : Begun) (p : Phase) (g : UpgradeBudget) (m : Framed) (t : Chosen) (b : Book)
     → Together k.settings g m t b.deadline b.rounds p b.stage → (x : Call)

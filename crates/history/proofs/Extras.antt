@@ -7,6 +7,7 @@ use Prim.Native.Nat.{ℕ, ◌≤◌}
 use native.Mathlib.Omega.{arith}
 use lib.Dec.{ltb, eqb}
 use lib.ListN.{length, length-append}
+use Rattle.std.specs.Prelude.{Err, None, Ok, Option, Result, Some, ⊤}
 use Rattle.prelude.specs.Choice.{pick, both, either, no}
 use Rattle.ids.specs.declared.PeerId.{PeerId}
 use Rattle.ids.specs.declared.ConnectionId.{ConnectionId}
@@ -21,14 +22,10 @@ use Rattle.inbound.specs.declared.InboundCircuit.{InboundCircuit}
 use Rattle.circuit.specs.declared.state.Phase.{Phase}
 use Rattle.circuit.specs.declared.state.Phase.TheVariants.{Done}
 use Rattle.vocabulary.specs.declared.Host.{Host}
-use Rattle.vocabulary.specs.declared.Offer.{Offer}
-use Rattle.vocabulary.specs.declared.Offer.TheVariants as offer
 use Rattle.vocabulary.specs.declared.StreamInput.{StreamInput}
 use Rattle.vocabulary.specs.declared.StreamInput.TheVariants as i
 use Rattle.circuit.specs.declared.state.ConnectWrite.{ConnectWrite}
 use Rattle.circuit.specs.declared.state.ConnectWrite.TheVariants.{Unsent, Held, Sent}
-use Rattle.vocabulary.specs.declared.Outcome.{Outcome}
-use Rattle.vocabulary.specs.declared.Outcome.TheVariants.{Accepted, Refused}
 use Rattle.circuit.specs.declared.decision.Decision.{Decision}
 use Rattle.inbound.specs.declared.Answer.{Answer}
 use Rattle.circuit.specs.Decisions.{silence, event_of, decided_of, quiet_of, refused_of}
@@ -70,9 +67,9 @@ module _ (c : InboundCircuit) (own : List ℕ) (chosen : Chosen) where
   unfolding refused_of carried.opens targets_after
   refused_idle why = (refl, refl)
 
-  checked : (d : Decision) → Idle c (answer d) → (y : Outcome) → Idle c (answer (unless c.core d y))
-  checked d h Accepted = h
-  checked d h (Refused why) = refused_idle why
+  checked : (d : Decision) → Idle c (answer d) → (y : Result ⊤ Refusal) → Idle c (answer (unless c.core d y))
+  checked d h (Ok tt) = h
+  checked d h (Err why) = refused_idle why
 
   checked_input : (short : Bool) (d : Decision) → Idle c (answer d)
       → Idle c (answer (pick short (refused_of c.core ReplyBufferTooShort) d))
@@ -170,9 +167,9 @@ wants_few who h b d e =
     pick_few 3 (both (is_circuit who h.live) (both (ltb b.rounds 3) (ltb h.at b.deadline))) (opening d h.offer) (record { said = d; lot = removed })
     (go h.offer) (omega arith)
   where
-    go : (o : Offer) → Few 3 (opening d o)
-    go offer.Nothing = omega arith
-    go (offer.Stream conn stream) = omega (arith, length-append d (opens conn stream ∷ []))
+    go : (o : Option (ConnectionId × StreamId)) → Few 3 (opening d o)
+    go None = omega arith
+    go (Some (conn, stream)) = omega (arith, length-append d (opens conn stream ∷ []))
 
 blast_one : (s : Settings) (times : ℕ) (list : List (List ℕ)) → length (blast s times list) ≤ 1
 blast_one s times list = go (either (eqb times 0) (is_none list))

@@ -6,6 +6,7 @@ use mathlib.Core.List.{List, [], ◌∷◌}
 use Prim.Native.Nat.{ℕ, ◌+◌}
 use lib.Dec.{ltb, leb, eqb}
 use lib.ListN.{length}
+use Rattle.std.specs.Prelude.{Err, None, Ok, Option, Result, Some, ⊤}
 use Rattle.prelude.specs.Choice.{pick, both, either, no}
 use Rattle.time.specs.Time.{last}
 use Rattle.ids.specs.declared.PeerId.{PeerId}
@@ -14,7 +15,7 @@ use Rattle.ids.specs.declared.StreamId.{StreamId}
 use Rattle.refusal.specs.declared.Refusal.TheVariants.{ReplyBufferTooShort, LedgerFull, HandshakeTooLate}
 use Rattle.budget.specs.declared.UpgradeBudget.{UpgradeBudget}
 use Rattle.budget.specs.declared.UpgradeStop.{UpgradeStop}
-use Rattle.budget.specs.declared.UpgradeStop.TheVariants.{None, ExchangeTimeout, UpgradeTimeout}
+use Rattle.budget.specs.declared.UpgradeStop.TheVariants.{ExchangeTimeout, UpgradeTimeout}
 use Rattle.budget.specs.Budget.{due_at, may_begin, ended}
 use Rattle.budget.specs.Budget as budget
 use Rattle.schedule.specs.declared.BlastSchedule.{BlastSchedule}
@@ -25,13 +26,9 @@ use Rattle.ledger.specs.Ledger.{refuses_punches}
 use Rattle.vocabulary.specs.declared.Settings.{Settings}
 use Rattle.vocabulary.specs.declared.StreamInput.{StreamInput}
 use Rattle.vocabulary.specs.declared.StreamInput.TheVariants as i
-use Rattle.vocabulary.specs.declared.Offer.{Offer}
-use Rattle.vocabulary.specs.declared.Offer.TheVariants as offer
 use Rattle.vocabulary.specs.declared.Host.{Host}
 use Rattle.vocabulary.specs.declared.Effect.{Effect}
 use Rattle.vocabulary.specs.declared.Effect.TheVariants as e
-use Rattle.vocabulary.specs.declared.Outcome.{Outcome}
-use Rattle.vocabulary.specs.declared.Outcome.TheVariants.{Accepted, Refused}
 use Rattle.circuit.specs.declared.state.Core.{Core}
 use Rattle.circuit.specs.declared.state.Phase.{Phase}
 use Rattle.circuit.specs.declared.state.Phase.TheVariants.{Handshaking, Exchange, Punching, Done}
@@ -64,6 +61,7 @@ use Rattle.history.specs.Questions.{lapses, lapsed, ran_out, after_all}
 use Rattle.history.proofs.Made.{framed_in, chosen_in, up_made, tick_made, input_made}
 use Rattle.history.proofs.Relation.{Begun, whose, core_of, circuit_of, Together, in_handshake, in_exchange_lem, in_window, at_end, Rel}
 use Rattle.history.proofs.Refuses.{step_turned, next_rel}
+use Rattle.refusal.specs.declared.Refusal.{Refusal}
 
 -- a decision leaves such a circuit
 abbrev Leaves : Decision → Bool → Type 0
@@ -79,9 +77,9 @@ round_leaves c g h s =
     pick_leaves (both (is_live c.circuit h.live) (may_begin g h.at)) (open_stream c g h.at s h.offer) (no_round c s) true
     (go h.offer) refl
   where
-    go : (o : Offer) → Leaves (open_stream c g h.at s o) true
-    go offer.Nothing = refl
-    go (offer.Stream conn stream) = refl
+    go : (o : Option (ConnectionId × StreamId)) → Leaves (open_stream c g h.at s o) true
+    go None = refl
+    go (Some (conn, stream)) = refl
 
 fail_leaves : (c : Core) (h : Host) (s : Said) → Leaves (fail_round c h s) true
 unfolding fail_round
@@ -96,12 +94,12 @@ module _ (c : Core) (h : Host) (p : promoted c.phase ≡ true) where
   unfolding tick_exchange decided_of done_of in_phase
   exchange_leaves conn stream = go (due_at c.budget h.at)
     where
-      go : (y : UpgradeStop) → Leaves (stopped c h conn stream y) true
+      go : (y : Option UpgradeStop) → Leaves (stopped c h conn stream y) true
       go None = quiet_leaves c true p
-      go (ExchangeTimeout round ms) =
+      go (Some (ExchangeTimeout round ms)) =
           pick_leaves (ltb h.at c.budget.deadline) (fail_round c h (reset_of conn stream))
-          (decided_of (done_of c) Kept (reset_of conn stream) e.Nothing) true (fail_leaves c h (reset_of conn stream)) refl
-      go (UpgradeTimeout ms) = refl
+          (decided_of (done_of c) Kept (reset_of conn stream) None) true (fail_leaves c h (reset_of conn stream)) refl
+      go (Some (UpgradeTimeout ms)) = refl
 
   window_leaves : (closes : ℕ) (q : BlastSchedule) → Leaves (tick_punching c h closes q) true
   unfolding tick_punching quiet_of decided_of done_of in_phase
@@ -113,9 +111,9 @@ module _ (c : Core) (h : Host) (p : promoted c.phase ≡ true) where
       (round_leaves c c.budget h (due_burst c h q)))
     where
       goes_on : Decision
-      goes_on = decided_of (in_phase c (Punching closes (due_of q c.settings.interval h.at).schedule)) Kept (due_burst c h q) e.Nothing
+      goes_on = decided_of (in_phase c (Punching closes (due_of q c.settings.interval h.at).schedule)) Kept (due_burst c h q) None
 
-  direct_leaves : (conn : ConnectionId) (third : Effect) → Leaves (upgraded_of c conn third) true
+  direct_leaves : (conn : ConnectionId) (third : Option Effect) → Leaves (upgraded_of c conn third) true
   unfolding upgraded_of decided_of done_of in_phase
   direct_leaves conn third = refl
 
@@ -124,7 +122,7 @@ module _ (c : Core) (h : Host) (p : promoted c.phase ≡ true) where
   came_leaves =
       pick_leaves c.settings.upgrades _ _ true
       (round_leaves c (budget.armed h.at c.settings.upgrade c.settings.exchange c.settings.punch) h
-      (event_of (e.Path c.source c.relay c.circuit) e.Nothing))
+      (event_of (Some (e.Path c.source c.relay c.circuit)) None))
       refl
 
   -- ---- an input in an exchange
@@ -146,7 +144,7 @@ module _ (c : Core) (h : Host) (p : promoted c.phase ≡ true) where
     first_leaves : (over pending : Bool) → Leaves (first_input c h x over pending) true
     unfolding first_input decided_of in_exchange in_phase
     first_leaves over pending =
-        pick_leaves over _ _ true (fail_leaves c h (sending_of silence x.conn x.stream (Connect c.connect) true)) refl
+        pick_leaves over _ _ true (fail_leaves c h (sending_of silence x.conn x.stream (Some (Connect c.connect)) true)) refl
 
     timely_leaves : (kind : StreamInput) (pending : Bool) (y : Heard) (v : ConnectWrite)
         → Leaves (timely_input c h x kind pending y targets full v) true
@@ -158,10 +156,10 @@ module _ (c : Core) (h : Host) (p : promoted c.phase ≡ true) where
     unfolding exchange_input
     timed_leaves kind pending y = go (due_at c.budget h.at)
       where
-        go : (z : UpgradeStop) → Leaves (in_time c h x kind pending y targets full z) true
+        go : (z : Option UpgradeStop) → Leaves (in_time c h x kind pending y targets full z) true
         go None = timely_leaves kind pending y x.connect
-        go (ExchangeTimeout round ms) = exchange_leaves x.conn x.stream
-        go (UpgradeTimeout ms) = exchange_leaves x.conn x.stream
+        go (Some (ExchangeTimeout round ms)) = exchange_leaves x.conn x.stream
+        go (Some (UpgradeTimeout ms)) = exchange_leaves x.conn x.stream
 
 -- ---- a call
 
@@ -176,10 +174,10 @@ none_step c d h = go (is_refused d.outcome)
     go true = h
     go false = h
 
-checked : (c : Core) (d : Decision) (v : Bool) → Step c d v → (y : Outcome) → Step c (unless c d y) v
+checked : (c : Core) (d : Decision) (v : Bool) → Step c d v → (y : Result ⊤ Refusal) → Step c (unless c d y) v
 unfolding refused_of
-checked c d v h Accepted = h
-checked c d v h (Refused why) = refl
+checked c d v h (Ok tt) = h
+checked c d v h (Err why) = refl
 
 checked_input : (c : Core) (d : Decision) (v : Bool) → Step c d v → (short : Bool) → Step c (pick short (refused_of c ReplyBufferTooShort) d) v
 unfolding refused_of
@@ -201,11 +199,11 @@ module _ (k : Begun) (g : UpgradeBudget) (m : Framed) (t : Chosen) (deadline rou
       go p stage (in_handshake end) =
           pick_leaves relayed _ _ true
           (pick_leaves (eqb conn.0 k.circuit.0) _ _ true (came_leaves (core p) h refl) (quiet_leaves (core p) true refl))
-          (direct_leaves (core p) h refl conn e.Nothing)
+          (direct_leaves (core p) h refl conn None)
       go p stage (in_exchange_lem on stream end count write x) =
-          pick_leaves relayed _ _ true (quiet_leaves (core p) true refl) (direct_leaves (core p) h refl conn (e.Reset on stream))
+          pick_leaves relayed _ _ true (quiet_leaves (core p) true refl) (direct_leaves (core p) h refl conn (Some (e.Reset on stream)))
       go p stage (in_window closes q w x) =
-          pick_leaves relayed _ _ true (quiet_leaves (core p) true refl) (direct_leaves (core p) h refl conn e.Nothing)
+          pick_leaves relayed _ _ true (quiet_leaves (core p) true refl) (direct_leaves (core p) h refl conn None)
       go p stage (at_end v) = quiet_leaves (core p) v refl
 
   tick_step : (h : Host) (p : Phase) (stage : Stage) → Together k.settings g m t deadline rounds p stage
@@ -217,7 +215,7 @@ module _ (k : Begun) (g : UpgradeBudget) (m : Framed) (t : Chosen) (deadline rou
       c = core (Handshaking end)
 
       go : (y : Bool) → Step c (pick y (quiet_of c) (decided_of (in_phase c (Done false)) Kept
-          (event_of (e.Close k.circuit) e.Nothing) e.Nothing)) (no y)
+          (event_of (Some (e.Close k.circuit)) None) None)) (no y)
       go true = refl
       go false = refl
   tick_step h p stage (in_exchange_lem conn stream end count write x) =

@@ -6,6 +6,7 @@ use mathlib.Core.List.{List, [], ◌∷◌}
 use Prim.Native.Nat.{ℕ, ◌+◌, min}
 use native.Mathlib.Omega.{arith}
 use lib.Dec.{ltb, eqb}
+use Rattle.std.specs.Prelude.{Some}
 use Rattle.prelude.specs.Choice.{pick, both, either, no}
 use Rattle.time.specs.Time.{last}
 use Rattle.ids.specs.declared.PeerId.{PeerId}
@@ -22,7 +23,6 @@ use Rattle.vocabulary.specs.declared.Settings.{Settings}
 use Rattle.inbound.specs.declared.InboundCircuit.{InboundCircuit}
 use Rattle.circuit.specs.declared.state.Core.{Core}
 use Rattle.circuit.specs.declared.state.Phase.{Phase}
-use Rattle.vocabulary.specs.declared.Deadline.TheVariants.{At}
 use Rattle.circuit.specs.State.{is_done}
 use Rattle.questions.specs.Questions.{next_deadline_at, claim_of, promoted, promotes_of}
 use Rattle.history.specs.Calls.{Call, step_of}
@@ -58,9 +58,9 @@ module _ (k : Begun) (g : UpgradeBudget) (m : Framed) (t : Chosen) (b : Book) wh
       → next_deadline_at (core_of k p g m.len t.len) p ≡ again k.settings b stage
   again_same p stage (in_handshake end) = refl
   again_same p stage (in_exchange_lem conn stream end count connect x) =
-      ap At (ends_first k.settings g b.deadline b.rounds end x ∙ omega (arith, x.ends))
+      ap Some (ends_first k.settings g b.deadline b.rounds end x ∙ omega (arith, x.ends))
   again_same p stage (in_window closes q w x) =
-      ap At
+      ap Some
       (rw (idle_next k.settings g t b.deadline b.rounds closes q w x, x.bare, next_same k.settings.interval closes q x.sound, x.stands, x.closes)
       (go (is_none w.list)))
     where

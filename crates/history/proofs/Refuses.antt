@@ -7,6 +7,7 @@ use Prim.Native.Nat.{ℕ, ◌+◌}
 use native.Mathlib.Omega.{arith}
 use lib.Dec.{ltb}
 use borrow.Author.Tests.{lt-ltb, le-ltb}
+use Rattle.std.specs.Prelude.{Err, Ok, Option, Result, ⊤}
 use Rattle.prelude.specs.Choice.{pick}
 use Rattle.time.specs.Time.{last}
 use Rattle.ids.specs.declared.PeerId.{PeerId}
@@ -24,10 +25,7 @@ use Rattle.vocabulary.specs.declared.Settings.{Settings}
 use Rattle.inbound.specs.declared.InboundCircuit.{InboundCircuit}
 use Rattle.circuit.specs.declared.state.Phase.{Phase}
 use Rattle.vocabulary.specs.declared.Host.{Host}
-use Rattle.vocabulary.specs.declared.Offer.{Offer}
 use Rattle.vocabulary.specs.declared.StreamInput.{StreamInput}
-use Rattle.vocabulary.specs.declared.Outcome.{Outcome}
-use Rattle.vocabulary.specs.declared.Outcome.TheVariants.{Accepted, Refused}
 use Rattle.circuit.specs.declared.state.Phase.TheVariants.{Handshaking, Done}
 use Rattle.circuit.specs.declared.decision.Decision.{Decision}
 use Rattle.circuit.specs.Decisions.{decided_of, quiet_of, refused_of}
@@ -50,7 +48,7 @@ unfolding next_deadline
 ends_first s g deadline rounds end x = rw x.runs (omega (arith, x.ends, x.limits.deadlines))
 
 module _ (k : Begun) (g : UpgradeBudget) (m : Framed) (t : Chosen) (deadline rounds : ℕ) where
-  offered_same : (p : Phase) (stage : Stage) → Together k.settings g m t deadline rounds p stage → (o : Offer) → offers_pair p o ≡ offered stage o
+  offered_same : (p : Phase) (stage : Stage) → Together k.settings g m t deadline rounds p stage → (o : Option (ConnectionId × StreamId)) → offers_pair p o ≡ offered stage o
   offered_same p stage (in_handshake end) o = refl
   offered_same p stage (in_exchange_lem conn stream end count connect x) o = refl
   offered_same p stage (in_window closes q w x) o = refl
@@ -98,9 +96,9 @@ some_number why.WrongType = refl
 some_number why.UnknownLine = refl
 some_number why.NotStarted = refl
 
-refused_number : (o : Outcome) → is_refused o ≡ turned (number_in o)
-refused_number Accepted = refl
-refused_number (Refused w) = sym (some_number w)
+refused_number : (o : Result ⊤ Refusal) → is_refused o ≡ turned (number_in o)
+refused_number (Ok tt) = refl
+refused_number (Err w) = sym (some_number w)
 
 call_turned : (c : InboundCircuit) (x : Call) → (step_of c x).refused ≡ turned (answered_with c x)
 unfolding step_of answered_with

@@ -6,6 +6,7 @@ use mathlib.Core.List.{List, [], ◌∷◌, ◌++◌, append-nil, append_assoc}
 use Prim.Native.Nat.{ℕ, ◌+◌}
 use lib.Dec.{ltb}
 use lib.ListN.{length}
+use Rattle.std.specs.Prelude.{Err, Ok, Option}
 use Rattle.prelude.specs.Choice.{pick}
 use Rattle.time.specs.Time.{last}
 use Rattle.ids.specs.declared.PeerId.{PeerId}
@@ -24,8 +25,6 @@ use Rattle.circuit.specs.declared.state.Phase.{Phase}
 use Rattle.circuit.specs.declared.state.Phase.TheVariants.{Handshaking, Done}
 use Rattle.circuit.specs.declared.state.Core.{Core}
 use Rattle.circuit.specs.declared.decision.Decision.{Decision}
-use Rattle.vocabulary.specs.declared.Offer.{Offer}
-use Rattle.vocabulary.specs.declared.Outcome.TheVariants.{Accepted, Refused}
 use Rattle.circuit.specs.Decisions.{decided_of, quiet_of, refused_of}
 use Rattle.checks.specs.Refusals.{in_use, check_of}
 use Rattle.circuit.specs.Calls.{unless, begun_of, started_of, wrote_of, down_of}
@@ -39,22 +38,23 @@ use Rattle.history.proofs.Relation.{Begun, whose, core_of, beside, circuit_of, T
 use Rattle.history.proofs.Tick.{tick_keeps}
 use Rattle.history.proofs.Up.{up_keeps, wrote_keeps, down_keeps}
 use Rattle.history.proofs.Input.{input_keeps}
+use Rattle.ids.specs.declared.StreamId.{StreamId}
 
 -- an answer that is made of a decision on a core
 module _ (k : Begun) (m : Framed) (t : Chosen) (own : List ℕ) (chosen : Chosen) (b b' : Book) (c : Core) (r : Rel k (beside c m t) b) where
   -- a call that may be refused; where it is not, its own list is not broken
-  checked : (p : Phase) (o : Offer) (d : Decision) → (broken own ≡ false → Keeps k b (answered (made m t own chosen d)) b')
+  checked : (p : Phase) (o : Option (ConnectionId × StreamId)) (d : Decision) → (broken own ≡ false → Keeps k b (answered (made m t own chosen d)) b')
       → Keeps k b (answered (made m t own chosen (unless c d (check_of p o own)))) b'
   unfolding check_of
   checked p o d h = go (broken own) refl (in_use p o)
     where
       go : (v : Bool) → broken own ≡ v → (u : Bool)
-          → Keeps k b (answered (made m t own chosen (unless c d (pick v (Refused BrokenList) (pick u (Refused OfferInUse) Accepted))))) b'
+          → Keeps k b (answered (made m t own chosen (unless c d (pick v (Err BrokenList) (pick u (Err OfferInUse) (Ok tt)))))) b'
       go true e u = refused_keeps k m t own chosen b b' c BrokenList r
       go false e true = refused_keeps k m t own chosen b b' c OfferInUse r
       go false e false = h e
 
-  checked_input : (short : Bool) (p : Phase) (o : Offer) (d : Decision) → (broken own ≡ false → Keeps k b (answered (made m t own chosen d)) b')
+  checked_input : (short : Bool) (p : Phase) (o : Option (ConnectionId × StreamId)) (d : Decision) → (broken own ≡ false → Keeps k b (answered (made m t own chosen d)) b')
       → Keeps k b (answered (made m t own chosen (pick short (refused_of c ReplyBufferTooShort) (unless c d (check_of p o own))))) b'
   checked_input true p o d h = refused_keeps k m t own chosen b b' c ReplyBufferTooShort r
   checked_input false p o d h = checked p o d h

@@ -8,6 +8,7 @@ use native.Mathlib.Omega.{arith}
 use borrow.Author.Tests.{ltb-true, ltb-false, lt-ltb, le-ltb, le-leb, lt-leb}
 use lib.Dec.{ltb, leb, eqb}
 use lib.ListN.{take}
+use Rattle.std.specs.Prelude.{None, Option, Some}
 use Rattle.prelude.specs.Choice.{pick, both, either}
 use Rattle.wire.specs.Lists.{entries}
 use Rattle.ids.specs.declared.ConnectionId.{ConnectionId}
@@ -27,12 +28,10 @@ use Rattle.circuit.specs.declared.state.Core.{Core}
 use Rattle.circuit.specs.declared.state.Phase.{Phase}
 use Rattle.circuit.specs.declared.state.Phase.TheVariants.{Handshaking, Exchange, Punching, Done}
 use Rattle.circuit.specs.declared.state.ConnectWrite.{ConnectWrite}
-use Rattle.vocabulary.specs.declared.Offer.{Offer}
-use Rattle.vocabulary.specs.declared.Offer.TheVariants as offer
 use Rattle.vocabulary.specs.declared.Host.{Host}
 use Rattle.circuit.specs.declared.decision.Said.{Said}
 use Rattle.vocabulary.specs.declared.Effect.{Effect}
-use Rattle.vocabulary.specs.declared.Effect.TheVariants.{Nothing, Path, Burst, Upgrade, Close, Reset, Open}
+use Rattle.vocabulary.specs.declared.Effect.TheVariants.{Path, Burst, Upgrade, Close, Reset, Open}
 use Rattle.circuit.specs.declared.decision.Decision.{Decision}
 use Rattle.inbound.specs.declared.Answer.{Answer}
 use Rattle.circuit.specs.declared.decision.Fate.TheVariants.{Kept, Removed, Opened}
@@ -94,26 +93,26 @@ module _ (m : Framed) (targets : List (List ℕ)) where
 
 module _ (source : PeerId) (l : PathLedger) (m : Framed) (t : Chosen) (own : List ℕ) (chosen : Chosen) (c : Core) where
   pub says_follows : (s : Said) (d : List Says) → Speaks m (entries (take c.targets t.bytes)) s d
-      → Follows source l (made m t own chosen (decided_of c Kept s Nothing)) (only d)
+      → Follows source l (made m t own chosen (decided_of c Kept s None)) (only d)
   unfolding decided_of carried.opens targets_after ledger_after
   says_follows s d h =
       record { effects = speaks_all m (entries (take c.targets t.bytes)) s d [] h ∙ append-nil d; ledger = refl; room = tt }
 
   pub removes_follows : (s : Said) (d : List Says) → Speaks m (entries (take c.targets t.bytes)) s d
-      → Follows source l (made m t own chosen (decided_of c Removed s Nothing)) (record { said = d; lot = removed })
+      → Follows source l (made m t own chosen (decided_of c Removed s None)) (record { said = d; lot = removed })
   unfolding decided_of carried.opens targets_after ledger_after
   removes_follows s d h =
       record { effects = speaks_all m (entries (take c.targets t.bytes)) s d [] h ∙ append-nil d; ledger = refl; room = tt }
 
   pub opens_follows : (s : Said) (d : List Says) (conn : ConnectionId) (stream : StreamId) → Speaks m (entries (take c.targets t.bytes)) s d
-      → Follows source l (made m t own chosen (decided_of c Kept s (Open conn stream))) (only (d ++ (opens conn stream ∷ [])))
+      → Follows source l (made m t own chosen (decided_of c Kept s (Some (Open conn stream)))) (only (d ++ (opens conn stream ∷ [])))
   unfolding decided_of carried.opens targets_after ledger_after
   opens_follows s d conn stream h =
       record { effects = speaks_all m (entries (take c.targets t.bytes)) s d (opens conn stream ∷ []) h; ledger = refl; room = tt }
 
   pub expects_follows : (end until : ℕ) → end ≡ until → (s : Said) (d : List Says) → Speaks m (entries (take c.targets chosen.bytes)) s d
       → refuses_punches l source ≡ false
-      → Follows source l (made m t own chosen (decided_of c (Opened end) s Nothing)) (record { said = d; lot = told.until until })
+      → Follows source l (made m t own chosen (decided_of c (Opened end) s None)) (record { said = d; lot = told.until until })
   unfolding decided_of carried.opens targets_after ledger_after
   expects_follows end until e s d h f =
       record {
@@ -147,10 +146,10 @@ module _ (k : Begun) (p : Phase) (g₀ g : UpgradeBudget) (m : Framed) (t : Chos
   unfolding no_round done_of in_phase
   none_follows = removes_follows k.source l m t own chosen (done_of c₀) said d speaks
 
-  offer_follows : (o : Offer) → Follows k.source l (made m t own chosen (open_stream c₀ g h.at said o)) (opening d o)
+  offer_follows : (o : Option (ConnectionId × StreamId)) → Follows k.source l (made m t own chosen (open_stream c₀ g h.at said o)) (opening d o)
   unfolding exchanging_of
-  offer_follows offer.Nothing = none_follows
-  offer_follows (offer.Stream conn stream) =
+  offer_follows None = none_follows
+  offer_follows (Some (conn, stream)) =
       opens_follows k.source l m t own chosen (exchanging_of c₀ (budget.begun g h.at) conn stream) said d conn stream speaks
 
   pub round_follows : Follows k.source l (made m t own chosen (open_round c₀ g h said)) (wants (whose k) h b d)
@@ -185,7 +184,7 @@ module _ (k : Begun) (g : UpgradeBudget) (m : Framed) (t : Chosen) (l : PathLedg
   abbrev b : Book
   b = book_of (asking (asking_of conn stream end count connect (bytes_of m))) deadline rounds past
 
-  over_follows : Follows k.source l (made m t own chosen (decided_of (done_of c) Kept (reset_of conn stream) Nothing))
+  over_follows : Follows k.source l (made m t own chosen (decided_of (done_of c) Kept (reset_of conn stream) None))
       (only (reset conn stream ∷ []))
   over_follows =
       says_follows k.source l m t own chosen (done_of c) (reset_of conn stream) (reset conn stream ∷ []) (reset_speaks m _ conn stream)
@@ -223,7 +222,7 @@ unfolding burst_of event_of
 burst_speaks m times payload t list e n = rw n (go (either (eqb times 0) (is_none list)))
   where
     go : (v : Bool)
-        → Speaks m (list_of t) (pick v silence (event_of (Burst times payload) Nothing)) (pick v [] (burst times payload list ∷ []))
+        → Speaks m (list_of t) (pick v silence (event_of (Some (Burst times payload)) None)) (pick v [] (burst times payload list ∷ []))
     go true = silence_speaks m (list_of t)
     go false = ap (λ (x : List (List ℕ)). burst times payload x ∷ []) e
 
@@ -258,7 +257,7 @@ module _ (k : Begun) (g : UpgradeBudget) (m : Framed) (t : Chosen) (l : PathLedg
           → Follows k.source l
           (made m t own chosen
           (pick z
-          (decided_of (in_phase c₂ (Punching until (due_of q k.settings.interval h.at).schedule)) Kept (due_burst c₂ h q) Nothing)
+          (decided_of (in_phase c₂ (Punching until (due_of q k.settings.interval h.at).schedule)) Kept (due_burst c₂ h q) None)
           (open_round c₂ g h (due_burst c₂ h q))))
           (pick z (only d) (wants (whose k) h b₂ d))
       within_follows n true = says_follows k.source l m t own chosen (in_phase c₂ _) (due_burst c₂ h q) d (due_speaks n)
@@ -269,7 +268,7 @@ module _ (k : Begun) (g : UpgradeBudget) (m : Framed) (t : Chosen) (l : PathLedg
           (made m t own chosen
           (pick (leb g.deadline h.at) (quiet_of (done_of c₂))
           (pick (ltb h.at w.end)
-          (decided_of (in_phase c₂ (Punching until (due_of q k.settings.interval h.at).schedule)) Kept (due_burst c₂ h q) Nothing)
+          (decided_of (in_phase c₂ (Punching until (due_of q k.settings.interval h.at).schedule)) Kept (due_burst c₂ h q) None)
           (open_round c₂ g h (due_burst c₂ h q)))))
           (pick y (pick (ltb h.at w.end) (only d) (wants (whose k) h b₂ d)) nothing)
       go true e =
@@ -294,10 +293,10 @@ module _ (k : Begun) (g : UpgradeBudget) (m : Framed) (t : Chosen) (l : PathLedg
 
       go : (y : Bool)
           → Follows k.source l (made m t own chosen (pick y (quiet_of c) (decided_of (in_phase c (Done false)) Kept
-          (event_of (Close k.circuit) Nothing) Nothing)))
+          (event_of (Some (Close k.circuit)) None) None)))
           (pick y nothing (only (close k.circuit ∷ [])))
       go true = quiet_follows k.source l m t own chosen c
-      go false = says_follows k.source l m t own chosen (in_phase c (Done false)) (event_of (Close k.circuit) Nothing)
+      go false = says_follows k.source l m t own chosen (in_phase c (Done false)) (event_of (Some (Close k.circuit)) None)
           (close k.circuit ∷ []) refl
   tick_follows p stage (in_exchange_lem conn stream end count connect x) =
       exchange_follows k g m t l h own chosen deadline rounds past conn stream end count connect x
@@ -305,13 +304,13 @@ module _ (k : Begun) (g : UpgradeBudget) (m : Framed) (t : Chosen) (l : PathLedg
   tick_follows p stage (at_end promoted) = quiet_follows k.source l m t own chosen (core_of k (Done promoted) g m.len t.len)
 
   -- a direct connection
-  direct_follows : (p : Phase) (conn : ConnectionId) (third : Effect) (d : List Says)
-      → said_in (message_of m.bytes message.None) (list_of t) third ≡ d
+  direct_follows : (p : Phase) (conn : ConnectionId) (third : Option Effect) (d : List Says)
+      → said_in (message_of m.bytes None) (list_of t) third ≡ d
       → Follows k.source l (made m t own chosen (upgraded_of (core_of k p g m.len t.len) conn third))
       (only (upgrade k.source k.circuit conn ∷ d))
   unfolding upgraded_of event_of done_of in_phase
   direct_follows p conn third d e =
-      says_follows k.source l m t own chosen (done_of (core_of k p g m.len t.len)) (event_of (Upgrade k.source k.circuit conn) third)
+      says_follows k.source l m t own chosen (done_of (core_of k p g m.len t.len)) (event_of (Some (Upgrade k.source k.circuit conn)) third)
       (upgrade k.source k.circuit conn ∷ d) (ap (λ (x : List Says). upgrade k.source k.circuit conn ∷ x) e)
 
   -- the circuit comes up
@@ -330,7 +329,7 @@ module _ (k : Begun) (g : UpgradeBudget) (m : Framed) (t : Chosen) (l : PathLedg
       c = core_of k (Handshaking end) g m.len t.len
 
       came : Said
-      came = event_of (Path k.source k.relay k.circuit) Nothing
+      came = event_of (Some (Path k.source k.relay k.circuit)) None
 
       d : List Says
       d = path k.source k.relay k.circuit ∷ []
@@ -340,7 +339,7 @@ module _ (k : Begun) (g : UpgradeBudget) (m : Framed) (t : Chosen) (l : PathLedg
           (made m t own chosen
           (pick v
           (open_round c (budget.armed h.at k.settings.upgrade k.settings.exchange k.settings.punch) h came)
-          (decided_of (done_of c) Kept came Nothing)))
+          (decided_of (done_of c) Kept came None)))
           (pick v (wants (whose k) h (armed k.settings h b) d) (only d))
       go true =
           round_follows k (Handshaking end) g (budget.armed h.at k.settings.upgrade k.settings.exchange
@@ -364,11 +363,11 @@ module _ (k : Begun) (g : UpgradeBudget) (m : Framed) (t : Chosen) (l : PathLedg
           (pick v (pick k.settings.upgrades (wants (whose k) h (armed k.settings h (book_of (handshaking end) deadline rounds past)) d) (only d)) nothing)
       go true = came_follows end
       go false = quiet_follows k.source l m t own chosen c
-  source_follows conn false p stage (in_handshake end) = direct_follows p conn Nothing [] refl
+  source_follows conn false p stage (in_handshake end) = direct_follows p conn None [] refl
   source_follows conn true p stage (in_exchange_lem on stream end count connect x) = quiet_follows k.source l m t own chosen _
-  source_follows conn false p stage (in_exchange_lem on stream end count connect x) = direct_follows p conn (Reset on stream) (reset on stream ∷ []) refl
+  source_follows conn false p stage (in_exchange_lem on stream end count connect x) = direct_follows p conn (Some (Reset on stream)) (reset on stream ∷ []) refl
   source_follows conn true p stage (in_window until q w x) = quiet_follows k.source l m t own chosen _
-  source_follows conn false p stage (in_window until q w x) = direct_follows p conn Nothing [] refl
+  source_follows conn false p stage (in_window until q w x) = direct_follows p conn None [] refl
   source_follows conn relayed p stage (at_end promoted) = quiet_follows k.source l m t own chosen _
 
   pub up_follows : (peer : PeerId) (conn : ConnectionId) (relayed : Bool) (p : Phase) (stage : Stage) → Together k.settings g m t deadline rounds p stage

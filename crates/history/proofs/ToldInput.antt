@@ -7,6 +7,7 @@ use Prim.Native.Nat.{ℕ, ◌≤◌, ◌<◌}
 use native.Mathlib.Omega.{arith}
 use borrow.Author.Tests.{ltb-true, ltb-false, eqb-true}
 use lib.Dec.{ltb, eqb}
+use Rattle.std.specs.Prelude.{None, Some}
 use Rattle.prelude.specs.Choice.{pick, either}
 use Rattle.time.specs.Time.{last, plus}
 use Rattle.ids.specs.declared.ConnectionId.{ConnectionId}
@@ -35,7 +36,7 @@ use Rattle.vocabulary.specs.declared.StreamInput.TheVariants as i
 use Rattle.vocabulary.specs.declared.Host.{Host}
 use Rattle.circuit.specs.declared.decision.Said.{Said}
 use Rattle.inputs.specs.declared.Running.{Running}
-use Rattle.vocabulary.specs.declared.Effect.TheVariants.{Nothing, Burst}
+use Rattle.vocabulary.specs.declared.Effect.TheVariants.{Burst}
 use Rattle.circuit.specs.Decisions.{silence, event_of, reset_of, burst_of, sending_of, decided_of, quiet_of, refused_of}
 use Rattle.circuit.specs.declared.decision.Fate.TheVariants.{Kept}
 use Rattle.circuit.specs.declared.decision.Message.TheVariants.{Connect, Sync}
@@ -82,7 +83,7 @@ reply_times s deadline at trip list r n = go (eqb trip 0) refl
 -- a message behind nothing, and the reset where the exchange is over
 sending_speaks : (m : Framed) (targets : List (List ℕ)) (conn : ConnectionId) (stream : StreamId) (over : Bool) (d : List Says)
     → pick over (reset conn stream ∷ []) [] ≡ d
-    → Speaks m targets (sending_of silence conn stream (Connect m.len) over) (send conn stream (bytes_of m) ∷ d)
+    → Speaks m targets (sending_of silence conn stream (Some (Connect m.len)) over) (send conn stream (bytes_of m) ∷ d)
 unfolding sending_of silence event_of message_of
 sending_speaks m targets conn stream true d e = ap (λ (x : List Says). send conn stream (bytes_of m) ∷ x) e
 sending_speaks m targets conn stream false d e = ap (λ (x : List Says). send conn stream (bytes_of m) ∷ x) e
@@ -112,13 +113,13 @@ module _ (k : Begun) (g : UpgradeBudget) (m : Framed) (t : Chosen) (l : PathLedg
 
   -- a burst, SYNC and the reset
   burst_sync : (times : ℕ) (targets : Chosen) (list : List (List ℕ)) → list_of targets ≡ list → eqb targets.len 0 ≡ is_none list
-      → Speaks m (list_of targets) (sending_of (burst_of times k.settings.payload targets.len) conn stream Sync true)
+      → Speaks m (list_of targets) (sending_of (burst_of times k.settings.payload targets.len) conn stream (Some Sync) true)
       (blast k.settings times list ++ (send conn stream sync ∷ reset conn stream ∷ []))
   unfolding sending_of burst_of silence event_of message_of
   burst_sync times targets list e n = rw (n, sync_bytes) (go (either (eqb times 0) (is_none list)))
     where
       go : (v : Bool)
-          → said_in sync_frame (list_of targets) (pick {A = Said} v silence (event_of (Burst times k.settings.payload) Nothing)).first
+          → said_in sync_frame (list_of targets) (pick {A = Said} v silence (event_of (Some (Burst times k.settings.payload)) None)).first
           ++ (send conn stream sync ∷ reset conn stream ∷ [])
           ≡ pick v [] (burst times k.settings.payload list ∷ []) ++ (send conn stream sync ∷ reset conn stream ∷ [])
       go true = refl
@@ -199,18 +200,18 @@ module _ (k : Begun) (g : UpgradeBudget) (m : Framed) (t : Chosen) (l : PathLedg
         go : (v : Bool)
             → Follows k.source l
             (made m t own peek.targets
-            (pick v (fail_round c h (sending_of silence conn stream (Connect m.len) true))
+            (pick v (fail_round c h (sending_of silence conn stream (Some (Connect m.len)) true))
             (decided_of (in_exchange c running count (write_of pending h.at)) Kept
-            (sending_of silence conn stream (Connect m.len) false) Nothing)))
+            (sending_of silence conn stream (Some (Connect m.len)) false) None)))
             (pick v (wants (whose k) h b (send conn stream (bytes_of m) ∷ reset conn stream ∷ [])) (only (send conn stream (bytes_of m) ∷ [])))
         go true =
             fail_follows k (Exchange conn stream count write) g m t l h own peek.targets
-            (sending_of silence conn stream (Connect m.len) true)
+            (sending_of silence conn stream (Some (Connect m.len)) true)
             (send conn stream (bytes_of m) ∷ reset conn stream ∷ []) b x.limits
             (sending_speaks m (list_of t) conn stream true (reset conn stream ∷ []) refl)
         go false =
             says_follows k.source l m t own peek.targets (in_exchange c running count (write_of pending h.at))
-            (sending_of silence conn stream (Connect m.len) false) (send conn stream (bytes_of m) ∷ [])
+            (sending_of silence conn stream (Some (Connect m.len)) false) (send conn stream (bytes_of m) ∷ [])
             (sending_speaks m (list_of t) conn stream false [] refl)
 
     -- ---- in time or not

@@ -1,6 +1,6 @@
 -- What one circuit answers over any list of its calls, whatever its settings, is what the book tells (RULES.md, section 11.10): its effects,
 -- the ledgers and reply buffers that it hands back, its refusals, and the connections that it takes.
-use Rattle.std.specs.Prelude.{◌≡◌, ℕ, ◌+◌, ◌≤◌, ◌<◌, Bool, true, false, List, [], ◌∷◌, ◌++◌, ltb, length, take}
+use Rattle.std.specs.Prelude.{◌≡◌, ℕ, ◌+◌, ◌≤◌, ◌<◌, Bool, true, false, List, [], ◌∷◌, ◌++◌, ltb, length, take, None, Option, Some}
 use Rattle.ids.specs.declared.PeerId.{PeerId}
 use Rattle.ids.specs.declared.ConnectionId.{ConnectionId}
 use Rattle.prelude.specs.Choice.{pick}
@@ -14,7 +14,7 @@ use Rattle.ledger.specs.Ledger.{PathLedger, refuses_punches, end_punches, expect
 use Rattle.vocabulary.specs.declared.Settings.{Settings}
 use Rattle.inbound.specs.declared.InboundCircuit.{InboundCircuit}
 use Rattle.vocabulary.specs.declared.Effect.{Effect}
-use Rattle.vocabulary.specs.declared.Effect.TheVariants.{Nothing, Path, Burst, Upgrade, Close, Send, Reset, Open}
+use Rattle.vocabulary.specs.declared.Effect.TheVariants.{Path, Burst, Upgrade, Close, Send, Reset, Open}
 use Rattle.inbound.specs.declared.Answer.{Answer}
 use Rattle.circuit.specs.declared.state.Phase.TheVariants.{Handshaking, Done}
 use Rattle.frames.specs.Sent.{own_connect}
@@ -33,15 +33,15 @@ abbrev pub bytes_of : Framed → List ℕ
 bytes_of m = take m.len m.bytes
 
 -- an effect of an answer, with the message that is sent and the targets of the burst
-abbrev pub said_in : Framed → (targets : List (List ℕ)) → Effect → List Says
-said_in m targets Nothing = []
-said_in m targets (Path peer relay conn) = path peer relay conn ∷ []
-said_in m targets (Burst times payload) = burst times payload targets ∷ []
-said_in m targets (Upgrade peer old new) = upgrade peer old new ∷ []
-said_in m targets (Close conn) = close conn ∷ []
-said_in m targets (Send conn stream) = send conn stream (bytes_of m) ∷ []
-said_in m targets (Reset conn stream) = reset conn stream ∷ []
-said_in m targets (Open conn stream) = opens conn stream ∷ []
+abbrev pub said_in : Framed → (targets : List (List ℕ)) → Option Effect → List Says
+said_in m targets None = []
+said_in m targets (Some (Path peer relay conn)) = path peer relay conn ∷ []
+said_in m targets (Some (Burst times payload)) = burst times payload targets ∷ []
+said_in m targets (Some (Upgrade peer old new)) = upgrade peer old new ∷ []
+said_in m targets (Some (Close conn)) = close conn ∷ []
+said_in m targets (Some (Send conn stream)) = send conn stream (bytes_of m) ∷ []
+said_in m targets (Some (Reset conn stream)) = reset conn stream ∷ []
+said_in m targets (Some (Open conn stream)) = opens conn stream ∷ []
 
 -- the four places, in order
 abbrev pub said_by : Answer → List Says

@@ -1,7 +1,7 @@
 -- The book of demand 3: a plain machine that is fed the settings, the calls' arguments and which calls were refused. It takes the
 -- steps of RULES.md, section 11, and keeps of each window the list, when it starts and ends, the round trip and the largest reading. It
 -- sends nothing and counts no instant.
-use Rattle.std.specs.Prelude.{ℕ, ◌+◌, ◌-◌, min, Bool, true, false, List, [], ◌∷◌, ◌++◌, ltb, eqb}
+use Rattle.std.specs.Prelude.{ℕ, ◌+◌, ◌-◌, min, Bool, true, false, List, [], ◌∷◌, ◌++◌, ltb, eqb, None, Option, Some}
 use Rattle.prelude.specs.Choice.{pick, both}
 use Rattle.time.specs.Time.{last, plus}
 use Rattle.schedule.specs.Instants.{start_of}
@@ -11,10 +11,6 @@ use Rattle.ids.specs.declared.StreamId.{StreamId}
 use Rattle.ids.specs.declared.PeerId.{PeerId}
 use Rattle.vocabulary.specs.declared.Settings.{Settings}
 use Rattle.vocabulary.specs.declared.Host.{Host}
-use Rattle.vocabulary.specs.declared.Live.{Live}
-use Rattle.vocabulary.specs.declared.Live.TheVariants as live
-use Rattle.vocabulary.specs.declared.Offer.{Offer}
-use Rattle.vocabulary.specs.declared.Offer.TheVariants as offer
 use Rattle.vocabulary.specs.declared.StreamInput.{StreamInput}
 use Rattle.vocabulary.specs.declared.StreamInput.TheVariants as i
 use Rattle.circuit.specs.declared.state.ConnectWrite.{ConnectWrite}
@@ -92,9 +88,9 @@ closed b = record { stage = over; deadline = b.deadline; rounds = b.rounds; past
 
 -- a round is wanted (section 11.4): the live connection is the circuit, fewer than three rounds were begun, the deadline is not
 -- reached, and there is a stream
-abbrev pub is_circuit : Who → Live → Bool
-is_circuit who live.Nothing = false
-is_circuit who (live.On conn) = eqb conn.0 who.circuit.0
+abbrev pub is_circuit : Who → Option ConnectionId → Bool
+is_circuit who None = false
+is_circuit who (Some conn) = eqb conn.0 who.circuit.0
 
 -- what candidates are chosen by (section 7): the usual limits, and private targets on or off
 abbrev pub terms_of : Settings → Terms
@@ -104,9 +100,9 @@ terms_of s = record { limits = usual; private = s.private }
 abbrev pub connect_of : Settings → List ℕ → List ℕ
 connect_of s list = frame_bytes Connect (own (terms_of s).limits (entries list))
 
-abbrev pub begins : Settings → Host → (own : List ℕ) → Book → Offer → Book
-begins s h own b offer.Nothing = closed b
-begins s h own b (offer.Stream conn stream) =
+abbrev pub begins : Settings → Host → (own : List ℕ) → Book → Option (ConnectionId × StreamId) → Book
+begins s h own b None = closed b
+begins s h own b (Some (conn, stream)) =
     record {
       stage = asking (record {
         conn = conn;

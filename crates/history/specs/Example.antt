@@ -1,5 +1,5 @@
 -- The worked example (RULES.md, section 12.8): its lines as calls.
-use Rattle.std.specs.Prelude.{ℕ, true, false, List, [], ◌∷◌, replicate}
+use Rattle.std.specs.Prelude.{ℕ, true, false, List, [], ◌∷◌, replicate, Some}
 use Rattle.ids.specs.declared.ConnectionId.{ConnectionId}
 use Rattle.ids.specs.declared.StreamId.{StreamId}
 use Rattle.ids.specs.declared.PeerId.{PeerId}
@@ -7,8 +7,6 @@ use Rattle.ledger.specs.Ledger.{empty_ledger}
 use Rattle.inbound.specs.declared.InboundCircuit.{InboundCircuit}
 use Rattle.vocabulary.specs.declared.Settings.{Settings}
 use Rattle.vocabulary.specs.declared.Host.{Host}
-use Rattle.vocabulary.specs.declared.Live.TheVariants.{On}
-use Rattle.vocabulary.specs.declared.Offer.TheVariants.{Stream}
 use Rattle.vocabulary.specs.declared.StreamInput.TheVariants.{Ready, Data}
 use Rattle.inbound.specs.Circuits.{new_answer}
 use Rattle.history.specs.Calls.{Call, up, input, tick, Datagram, step_of}
@@ -42,7 +40,7 @@ settings =
 
 -- live=7 offer=7:n
 abbrev pub host : ℕ → ℕ → Host
-host at n = record { at = at; live = On circuit; offer = Stream circuit (stream n) }
+host at n = record { at = at; live = Some circuit; offer = Some (circuit, stream n) }
 
 -- own=-
 abbrev pub own : List ℕ

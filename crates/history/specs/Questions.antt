@@ -1,5 +1,5 @@
 -- What a circuit answers when it is asked, after any list of calls (RULES.md, section 11.9).
-use Rattle.std.specs.Prelude.{◌≡◌, ℕ, ◌+◌, min, Bool, true, false, List, [], ◌∷◌, ltb, eqb, drop}
+use Rattle.std.specs.Prelude.{◌≡◌, ℕ, ◌+◌, min, Bool, true, false, List, [], ◌∷◌, ltb, eqb, drop, None, Option, Some}
 use Rattle.prelude.specs.Choice.{pick, both, either, no}
 use Rattle.time.specs.Time.{last}
 use Rattle.ids.specs.declared.PeerId.{PeerId}
@@ -12,8 +12,6 @@ use Rattle.path.specs.declared.Claim.TheVariants as claim
 use Rattle.path.specs.declared.Owner.TheVariants.{Inbound}
 use Rattle.vocabulary.specs.declared.Settings.{Settings}
 use Rattle.inbound.specs.declared.InboundCircuit.{InboundCircuit}
-use Rattle.vocabulary.specs.declared.Deadline.{Deadline}
-use Rattle.vocabulary.specs.declared.Deadline.TheVariants.{At, None}
 use Rattle.questions.specs.Questions.{next_deadline_at, claim_of, promotes_of}
 use Rattle.history.specs.Calls.{Call, up, input, tick, wrote, down, step_of}
 use Rattle.history.specs.Book.{Window, Stage, handshaking, asking, within, over, Book, Who, fresh}
@@ -32,10 +30,10 @@ sooner [] limit = limit
 sooner (t ∷ ts) limit = min t limit
 
 -- when the circuit is to be looked at again
-abbrev pub again : Settings → Book → Stage → Deadline
-again s b (handshaking end) = At end
-again s b (asking x) = At (min x.end b.deadline)
-again s b (within w) = At (pick (is_none w.list) (min w.end b.deadline) (sooner (waiting s w) (min w.end b.deadline)))
+abbrev pub again : Settings → Book → Stage → Option ℕ
+again s b (handshaking end) = Some end
+again s b (asking x) = Some (min x.end b.deadline)
+again s b (within w) = Some (pick (is_none w.list) (min w.end b.deadline) (sooner (waiting s w) (min w.end b.deadline)))
 again s b over = None
 
 abbrev pub is_over : Stage → Bool
@@ -45,8 +43,8 @@ is_over (within w) = false
 is_over over = true
 
 -- the connection is the circuit's, and the circuit is not over
-abbrev pub claims : Who → Book → ConnectionId → Claim
-claims who b conn = pick (both (eqb conn.0 who.circuit.0) (no (is_over b.stage))) (Circuit who.relay Inbound) claim.None
+abbrev pub claims : Who → Book → ConnectionId → Option Claim
+claims who b conn = pick (both (eqb conn.0 who.circuit.0) (no (is_over b.stage))) (Some (Circuit who.relay (Some Inbound))) None
 
 -- an accepted tick came at or past the handshake's end
 abbrev pub lapses : ℕ → Stage → Bool

@@ -1,21 +1,21 @@
 -- The number that a call is refused with, by the book (RULES.md, section 11.3); 0 where it is accepted. So the book is fed the settings and
 -- the calls, and nothing else.
-use Rattle.std.specs.Prelude.{ℕ, Bool, false, List, [], ◌∷◌, ltb, eqb, length}
+use Rattle.std.specs.Prelude.{ℕ, Bool, false, List, [], ◌∷◌, ltb, eqb, length, Option}
 use Rattle.prelude.specs.Choice.{pick, both, no}
 use Rattle.ids.specs.declared.StreamId.{StreamId}
 use Rattle.wire.specs.Lists.{broken}
 use Rattle.ledger.specs.Ledger.{refuses_punches}
 use Rattle.vocabulary.specs.declared.Settings.{Settings}
 use Rattle.vocabulary.specs.declared.Host.{Host}
-use Rattle.vocabulary.specs.declared.Offer.{Offer}
 use Rattle.vocabulary.specs.declared.StreamInput.{StreamInput}
 use Rattle.history.specs.Heard.{heard}
 use Rattle.history.specs.Calls.{Call, up, input, tick, wrote, down}
 use Rattle.history.specs.Numbers.{is_pair, went_out, is_data, is_connect}
 use Rattle.history.specs.Book.{Stage, handshaking, asking, within, over, Book, Who, note}
+use Rattle.ids.specs.declared.ConnectionId.{ConnectionId}
 
 -- 2: an exchange runs, and the offer is its pair
-abbrev pub offered : Stage → Offer → Bool
+abbrev pub offered : Stage → Option (ConnectionId × StreamId) → Bool
 offered (handshaking end) o = false
 offered (asking x) o = is_pair x.conn x.stream o
 offered (within w) o = false
@@ -31,7 +31,7 @@ completes h buffer stream kind bytes (within w) = false
 completes h buffer stream kind bytes over = false
 
 -- 5, then 2, then what else a call is refused with
-abbrev pub before : (broken : Bool) → Stage → Offer → ℕ → ℕ
+abbrev pub before : (broken : Bool) → Stage → Option (ConnectionId × StreamId) → ℕ → ℕ
 before broken stage o other = pick broken 5 (pick (offered stage o) 2 other)
 
 -- the own list is broken; the source has no window in the ledger, and 64 others have

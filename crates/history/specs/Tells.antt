@@ -1,6 +1,6 @@
 -- What the book tells of each call (RULES.md, sections 11.4 to 11.8): what its answer says, and what becomes of the source's window in the
 -- ledger. The tables of the rule row by row; the book's next page is Book's `note`.
-use Rattle.std.specs.Prelude.{ℕ, ◌-◌, Bool, true, false, List, [], ◌∷◌, ◌++◌, ltb, eqb}
+use Rattle.std.specs.Prelude.{ℕ, ◌-◌, Bool, true, false, List, [], ◌∷◌, ◌++◌, ltb, eqb, None, Option, Some}
 use Rattle.prelude.specs.Choice.{pick, both, either, no}
 use Rattle.schedule.specs.Readings.{larger, counted}
 use Rattle.candidates.specs.Selection.{selected}
@@ -9,8 +9,6 @@ use Rattle.ids.specs.declared.StreamId.{StreamId}
 use Rattle.ids.specs.declared.PeerId.{PeerId}
 use Rattle.vocabulary.specs.declared.Settings.{Settings}
 use Rattle.vocabulary.specs.declared.Host.{Host}
-use Rattle.vocabulary.specs.declared.Offer.{Offer}
-use Rattle.vocabulary.specs.declared.Offer.TheVariants as offer
 use Rattle.vocabulary.specs.declared.StreamInput.{StreamInput}
 use Rattle.vocabulary.specs.declared.StreamInput.TheVariants as i
 use Rattle.circuit.specs.declared.state.ConnectWrite.{ConnectWrite}
@@ -51,9 +49,9 @@ nothing = only []
 
 -- ---- a round is wanted (section 11.4), behind what was said: the offered pair is opened, or the source's window is removed
 
-abbrev pub opening : List Says → Offer → Told
-opening said offer.Nothing = record { said = said; lot = removed }
-opening said (offer.Stream conn stream) = only (said ++ (opens conn stream ∷ []))
+abbrev pub opening : List Says → Option (ConnectionId × StreamId) → Told
+opening said None = record { said = said; lot = removed }
+opening said (Some (conn, stream)) = only (said ++ (opens conn stream ∷ []))
 
 abbrev pub wants : Who → Host → Book → List Says → Told
 wants who h b said =

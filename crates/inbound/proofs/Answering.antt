@@ -6,6 +6,7 @@ use mathlib.Core.List.{List, []}
 use Prim.Native.Nat.{ℕ, ◌+◌}
 use lib.Dec.{ltb}
 use lib.ListN.{replicate}
+use Rattle.std.specs.Prelude.{None, Option, Some}
 use Rattle.prelude.specs.Choice.{pick}
 use Rattle.ids.specs.declared.ConnectionId.{ConnectionId}
 use Rattle.ids.specs.declared.PeerId.{PeerId}
@@ -25,11 +26,11 @@ use Rattle.circuit.specs.Decisions.{length_of}
 use Rattle.circuit.specs.Calls.{begun_of, started_of}
 use Rattle.inbound.specs.Circuits.{answer_of, made_of}
 
-pub sent_message : (connect : List ℕ) (m : Message) → record { bytes = sent_after connect (replicate frame_capacity 0) m; len = length_of m } ≡ message_of connect m
+pub sent_message : (connect : List ℕ) (m : Option Message) → record { bytes = sent_after connect (replicate frame_capacity 0) m; len = length_of m } ≡ message_of connect m
 unfolding sent_after length_of message_of
-sent_message connect message.None = refl
-sent_message connect (message.Connect n) = refl
-sent_message connect message.Sync = refl
+sent_message connect None = refl
+sent_message connect (Some (message.Connect n)) = refl
+sent_message connect (Some message.Sync) = refl
 
 pub made_answer : (connect : List ℕ) {d e : Decision} {r : Answer} {x y t u s z : List ℕ} → r ≡ made_of d x t s → d ≡ e → x ≡ y → t ≡ u
     → s ≡ sent_after connect z e.message → z ≡ replicate frame_capacity 0 → r ≡ answer_of e y u (message_of connect e.message)
@@ -40,18 +41,18 @@ made_answer connect {d} {e} {r} {x} {y} {t} {u} {s} {z} i j k l m n =
     ∙ sent_message connect e.message)
 
 pub made_plainly : {d e : Decision} {r : Answer} {x y t u s : List ℕ} → r ≡ made_of d x t s → d ≡ e → x ≡ y → t ≡ u
-    → e.message ≡ message.None → s ≡ replicate frame_capacity 0 → r ≡ answer_of e y u (packed [])
+    → e.message ≡ None → s ≡ replicate frame_capacity 0 → r ≡ answer_of e y u (packed [])
 unfolding length_of
 made_plainly {d} {e} {r} {x} {y} {t} {u} {s} i j k l m n =
     i ∙ ap (λ (q : Decision). made_of q x t s) j ∙ ap (λ (q : List ℕ). made_of e q t s) k ∙ ap (λ (q : List ℕ). made_of e y q s) l
     ∙ ap (answer_of e y u) (rw (m, n))
 
-pub started_silent : (source relay : PeerId) (circuit : ConnectionId) (s : Settings) (at : ℕ) → (started_of source relay circuit s at).message ≡ message.None
+pub started_silent : (source relay : PeerId) (circuit : ConnectionId) (s : Settings) (at : ℕ) → (started_of source relay circuit s at).message ≡ None
 unfolding started_of refused_of quiet_of decided_of silence event_of
 started_silent source relay circuit s at = go (ltb last (at + s.handshake))
   where
     go : (v : Bool)
         → (pick v (refused_of (begun_of source relay circuit s (Done false)) HandshakeTooLate)
-        (quiet_of (begun_of source relay circuit s (Handshaking (at + s.handshake))))).message ≡ message.None
+        (quiet_of (begun_of source relay circuit s (Handshaking (at + s.handshake))))).message ≡ None
     go true = refl
     go false = refl

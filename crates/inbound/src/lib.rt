@@ -16,7 +16,8 @@ use ids::{ConnectionId, PeerId, StreamId};
 use ledger::Ledger;
 use lent::{TargetBytes, calls};
 use path::Claim;
-use vocabulary::{Deadline, Effect, Host, Outcome, Settings, StreamInput};
+use refusal::Refusal;
+use vocabulary::{Effect, Host, Settings, StreamInput};
 
 #[derive(Clone, Copy)]
 pub struct InboundCircuit {
@@ -29,47 +30,37 @@ pub struct InboundCircuit {
 #[derive(Clone, Copy)]
 pub struct Answer {
     pub circuit: InboundCircuit,
-    pub outcome: Outcome,
+    pub outcome: Result<(), Refusal>,
     pub took: bool,
     pub window: Fate,
-    pub first: Effect,
-    pub second: Effect,
-    pub third: Effect,
-    pub fourth: Effect,
+    pub first: Option<Effect>,
+    pub second: Option<Effect>,
+    pub third: Option<Effect>,
+    pub fourth: Option<Effect>,
     pub message: Framed,
 }
 
+#[tactic(auto, unfolding(circuit::specs::Decisions::length_of))]
 fn made(d: Decision, connect: FrameBytes, targets: TargetBytes, sent: FrameBytes) -> Answer
     ensures { result ≡ made_of d connect targets sent }
 {
-    let core = d.core;
-    let outcome = d.outcome;
-    let window = d.window;
-    let first = d.first;
-    let second = d.second;
-    let third = d.third;
-    let fourth = d.fourth;
-    let message = d.message;
-    let len = decision::message_size(message);
-    let circuit = InboundCircuit {
-        core: core,
-        connect: connect,
-        targets: targets,
-    };
-    let framed = Framed {
-        bytes: sent,
-        len: len,
-    };
     Answer {
-        circuit: circuit,
-        outcome: outcome,
+        circuit: InboundCircuit {
+            core: d.core,
+            connect,
+            targets,
+        },
+        outcome: d.outcome,
         took: d.took,
-        window: window,
-        first: first,
-        second: second,
-        third: third,
-        fourth: fourth,
-        message: framed,
+        window: d.window,
+        first: d.first,
+        second: d.second,
+        third: d.third,
+        fourth: d.fourth,
+        message: Framed {
+            bytes: sent,
+            len: decision::message_size(d.message),
+        },
     }
 }
 
@@ -104,12 +95,10 @@ impl InboundCircuit {
         ensures tables { tables_of ledger.new ≡ ledger_behind self (tables_of ledger.old) (up_answer self host own.now peer conn relayed) }
         ensures words { ledger.new ≡ laid (ledger_behind self (tables_of ledger.old) (up_answer self host own.now peer conn relayed)) ledger.old }
     {
-        let core = self.core;
-        let targets = self.targets;
         let mut connect = self.connect;
         let mut sent = frames::blank();
         let d = calls::on_connection_established(
-            core,
+            self.core,
             &mut connect,
             &mut sent,
             ledger,
@@ -119,6 +108,7 @@ impl InboundCircuit {
             conn,
             relayed,
         );
+        let targets = self.targets;
         made(d, connect, targets, sent)
     }
 
@@ -127,11 +117,10 @@ impl InboundCircuit {
         ensures tables { tables_of ledger.new ≡ ledger_behind self (tables_of ledger.old) (tick_answer self host own.now) }
         ensures words { ledger.new ≡ laid (ledger_behind self (tables_of ledger.old) (tick_answer self host own.now)) ledger.old }
     {
-        let core = self.core;
-        let targets = self.targets;
         let mut connect = self.connect;
         let mut sent = frames::blank();
-        let d = calls::on_tick(core, &mut connect, &mut sent, ledger, host, own);
+        let d = calls::on_tick(self.core, &mut connect, &mut sent, ledger, host, own);
+        let targets = self.targets;
         made(d, connect, targets, sent)
     }
 
@@ -151,12 +140,11 @@ impl InboundCircuit {
         ensures words { ledger.new ≡ laid (ledger_behind self (tables_of ledger.old) (input_answer self (tables_of ledger.old) host own.now buffer.old stream input bytes.now pending)) ledger.old }
         ensures buffer { buffer.new ≡ input_buffer self (tables_of ledger.old) host own.now buffer.old stream input bytes.now pending }
     {
-        let core = self.core;
         let mut targets = self.targets;
         let mut connect = self.connect;
         let mut sent = frames::blank();
         let d = calls::on_dcutr_stream_input(
-            core,
+            self.core,
             &mut connect,
             &mut targets,
             &mut sent,
@@ -175,12 +163,11 @@ impl InboundCircuit {
     pub fn on_write_completed(self, at: u64, conn: ConnectionId, stream: StreamId) -> Answer
         ensures { result ≡ wrote_answer self at conn stream }
     {
-        let core = self.core;
-        let targets = self.targets;
         let connect = self.connect;
+        let targets = self.targets;
         let sent = frames::blank();
         made(
-            core.on_write_completed(at, conn, stream),
+            self.core.on_write_completed(at, conn, stream),
             connect,
             targets,
             sent,
@@ -190,38 +177,33 @@ impl InboundCircuit {
     pub fn on_connection_closed(self, conn: ConnectionId) -> Answer
         ensures { result ≡ down_answer self conn }
     {
-        let core = self.core;
-        let targets = self.targets;
         let connect = self.connect;
+        let targets = self.targets;
         let sent = frames::blank();
-        made(core.on_connection_closed(conn), connect, targets, sent)
+        made(self.core.on_connection_closed(conn), connect, targets, sent)
     }
 
     pub fn is_done(self) -> bool
         ensures { result ≡ is_done self.core.phase }
     {
-        let core = self.core;
-        questions::is_done(core)
+        questions::is_done(self.core)
     }
 
     pub fn promotes(self, conn: ConnectionId) -> bool
         ensures { result ≡ promotes_of self.core conn }
     {
-        let core = self.core;
-        questions::promotes(core, conn)
+        questions::promotes(self.core, conn)
     }
 
-    pub fn circuit_claim(self, conn: ConnectionId) -> Claim
+    pub fn circuit_claim(self, conn: ConnectionId) -> Option<Claim>
         ensures { result ≡ claim_of self.core conn }
     {
-        let core = self.core;
-        questions::circuit_claim(core, conn)
+        questions::circuit_claim(self.core, conn)
     }
 
-    pub fn next_deadline(self) -> Deadline
+    pub fn next_deadline(self) -> Option<u64>
         ensures { result ≡ next_deadline_at self.core self.core.phase }
     {
-        let core = self.core;
-        questions::next_deadline(core)
+        questions::next_deadline(self.core)
     }
 }

@@ -6,6 +6,7 @@ use Prim.Native.Nat.{ℕ, zero, suc, ◌+◌, ◌-◌, ◌≤◌}
 use native.Mathlib.Omega.{arith}
 use lib.ListN.{length, take, drop, set, length-append, take-append-drop}
 use lib.Seq.{sets, take-take, length-take-le}
+use Rattle.std.specs.Prelude.{Err, Ok, Result, ℕ}
 use Rattle.wire.specs.Frame.{max_frame_size}
 use Rattle.wire.specs.declared.Frame.{Frame}
 use Rattle.wire.proofs.Frames.{Within}
@@ -13,8 +14,6 @@ use Rattle.wire.proofs.Stores.{sets_out, sets_append, sets_front}
 use Rattle.message.specs.Message.{decode_of, decode_into}
 use Rattle.message.specs.declared.Kind.{Kind}
 use Rattle.message.specs.declared.Kind.TheVariants.{Connect, Sync}
-use Rattle.message.specs.declared.Decoded.{Decoded}
-use Rattle.message.specs.declared.Decoded.TheVariants.{Message, Refused}
 use Rattle.refusal.specs.declared.Refusal.{Refusal}
 use Rattle.frames.specs.Gathering.{gathered}
 use Rattle.initiator.specs.Replies.{replied, message_at, reply_of, reply_into}
@@ -83,13 +82,13 @@ message_copied z b xs n start len h g =
 
 -- ---- what was decoded
 
-pub is_connect : {d : Decoded} {k : Kind} {n : ℕ} {x : Decoded} → d ≡ x → d ≡ Message k n → k ≡ Connect → r.Connect n ≡ replied x
+pub is_connect : {d : Result (Kind × ℕ) Refusal} {k : Kind} {n : ℕ} {x : Result (Kind × ℕ) Refusal} → d ≡ x → d ≡ Ok (k, n) → k ≡ Connect → r.Connect n ≡ replied x
 is_connect e g h = rw (← e, g, h)
 
-pub is_sync : {d : Decoded} {k : Kind} {n : ℕ} {x : Decoded} → d ≡ x → d ≡ Message k n → k ≡ Sync → r.Failed ≡ replied x
+pub is_sync : {d : Result (Kind × ℕ) Refusal} {k : Kind} {n : ℕ} {x : Result (Kind × ℕ) Refusal} → d ≡ x → d ≡ Ok (k, n) → k ≡ Sync → r.Failed ≡ replied x
 is_sync e g h = rw (← e, g, h)
 
-pub is_refused : {d : Decoded} {w : Refusal} {x : Decoded} → d ≡ x → d ≡ Refused w → r.Failed ≡ replied x
+pub is_refused : {d : Result (Kind × ℕ) Refusal} {w : Refusal} {x : Result (Kind × ℕ) Refusal} → d ≡ x → d ≡ Err w → r.Failed ≡ replied x
 is_refused e g = rw (← e, g)
 
 -- ---- what was gathered

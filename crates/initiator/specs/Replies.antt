@@ -1,20 +1,20 @@
 -- What the gathered bytes answer (RULES.md, sections 3 and 4).
-use Rattle.std.specs.Prelude.{ℕ, List, take, drop}
+use Rattle.std.specs.Prelude.{ℕ, List, take, drop, Err, Ok, Result}
 use Rattle.wire.specs.declared.Frame.{Frame}
 use Rattle.wire.specs.declared.Frame.TheVariants as f
 use Rattle.message.specs.Message.{decode_of, decode_into}
 use Rattle.message.specs.declared.Kind.TheVariants.{Connect, Sync}
-use Rattle.message.specs.declared.Decoded.{Decoded}
-use Rattle.message.specs.declared.Decoded.TheVariants.{Message, Refused}
 use Rattle.frames.specs.Gathering.{gathered, gathered_into}
 use Rattle.initiator.specs.declared.Reply.{Reply}
 use Rattle.initiator.specs.declared.Reply.TheVariants as r
+use Rattle.message.specs.declared.Kind.{Kind}
+use Rattle.refusal.specs.declared.Refusal.{Refusal}
 
 -- only a CONNECT is a reply; every other message fails the exchange
-abbrev pub replied : Decoded → Reply
-replied (Message Connect size) = r.Connect size
-replied (Message Sync size) = r.Failed
-replied (Refused why) = r.Failed
+abbrev pub replied : Result (Kind × ℕ) Refusal → Reply
+replied (Ok (Connect, size)) = r.Connect size
+replied (Ok (Sync, size)) = r.Failed
+replied (Err why) = r.Failed
 
 -- the message of a whole frame
 abbrev pub message_at : ℕ → ℕ → List ℕ → List ℕ

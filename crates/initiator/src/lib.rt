@@ -7,7 +7,7 @@ ghost use Rattle.message.specs.Message.{decode_of, decode_into};
 ghost use Rattle.wire.specs.Frame.{max_frame_size};
 ghost use Rattle.initiator.specs.Replies.{replied, message_at, reply_of, reply_into};
 
-use message::{Decoded, Kind};
+use message::Kind;
 use wire::{Frame, MAX_FRAME_SIZE};
 
 // What the gathered bytes answer: more are needed, a CONNECT with a list of size bytes, or anything else.
@@ -32,11 +32,11 @@ fn read_message(message: &[u8], out: &mut [u8]) -> Reply
     ensures stored { out.new ≡ decode_into message.now out.old }
 {
     match message::decode(message, out) {
-        Decoded::Message { kind, size } => match kind {
+        Ok((kind, size)) => match kind {
             Kind::Connect => Reply::Connect { size: size },
             Kind::Sync => Reply::Failed,
         },
-        Decoded::Refused(_) => Reply::Failed,
+        Err(_) => Reply::Failed,
     }
 }
 

@@ -1,18 +1,17 @@
 -- Input (RULES.md, section 11.7).
-use Rattle.std.specs.Prelude.{ℕ, ◌-◌, Bool, true, false, eqb, ltb}
+use Rattle.std.specs.Prelude.{ℕ, ◌-◌, Bool, true, false, eqb, ltb, None, Option, Some}
 use Rattle.prelude.specs.Choice.{pick, both}
 use Rattle.ids.specs.declared.StreamId.{StreamId}
 use Rattle.refusal.specs.declared.Refusal.TheVariants.{LedgerFull}
 use Rattle.budget.specs.declared.UpgradeBudget.{UpgradeBudget}
 use Rattle.budget.specs.declared.UpgradeStop.{UpgradeStop}
-use Rattle.budget.specs.declared.UpgradeStop.TheVariants.{None, ExchangeTimeout, UpgradeTimeout}
+use Rattle.budget.specs.declared.UpgradeStop.TheVariants.{ExchangeTimeout, UpgradeTimeout}
 use Rattle.budget.specs.Budget.{ended, window_end, due_at, next_deadline}
 use Rattle.schedule.specs.Instants.{start_of}
 use Rattle.schedule.specs.Schedule.{opened_of}
 use Rattle.vocabulary.specs.declared.Host.{Host}
 use Rattle.vocabulary.specs.declared.StreamInput.{StreamInput}
 use Rattle.vocabulary.specs.declared.StreamInput.TheVariants as i
-use Rattle.vocabulary.specs.declared.Effect.TheVariants.{Nothing}
 use Rattle.circuit.specs.declared.state.Core.{Core}
 use Rattle.circuit.specs.declared.state.Phase.{Phase}
 use Rattle.circuit.specs.declared.state.Phase.TheVariants.{Handshaking, Exchange, Punching, Done}
@@ -45,8 +44,8 @@ write_of pending at = pick pending Held (Sent at)
 -- CONNECT goes out with the first input; a closing one fails the round
 unfoldable pub first_input : Core → Host → Running → Bool → Bool → Decision
 first_input c h x over pending =
-    pick over (fail_round c h (sending_of silence x.conn x.stream (Connect c.connect) true))
-    (decided_of (in_exchange c x x.count (write_of pending h.at)) Kept (sending_of silence x.conn x.stream (Connect c.connect) false) Nothing)
+    pick over (fail_round c h (sending_of silence x.conn x.stream (Some (Connect c.connect)) true))
+    (decided_of (in_exchange c x x.count (write_of pending h.at)) Kept (sending_of silence x.conn x.stream (Some (Connect c.connect)) false) None)
 
 unfoldable pub round_trip : ConnectWrite → ℕ → ℕ
 round_trip Unsent at = 0
@@ -65,7 +64,7 @@ window_of b interval connect at =
 abbrev pub opening : Core → Running → ℕ → Window → Decision
 opening c x targets w =
     decided_of (punching_of c (ended c.budget) w.until w.due.schedule targets) (Opened c.budget.deadline)
-    (sending_of (burst_of w.due.times c.settings.payload targets) x.conn x.stream Sync true) Nothing
+    (sending_of (burst_of w.due.times c.settings.payload targets) x.conn x.stream (Some Sync) true) None
 
 unfoldable pub open_window : Core → ℕ → Running → ℕ → Decision
 open_window c at x targets = opening c x targets (window_of c.budget c.settings.interval x.connect at)
@@ -90,10 +89,10 @@ timely_input c h x kind pending heard targets full Held = later_input c h x hear
 timely_input c h x kind pending heard targets full (Sent at) = later_input c h x heard targets full kind
 
 -- at or past the exchange's end, or the deadline, it does the circuit's tick
-abbrev pub in_time : Core → Host → Running → StreamInput → Bool → Heard → ℕ → Bool → UpgradeStop → Decision
+abbrev pub in_time : Core → Host → Running → StreamInput → Bool → Heard → ℕ → Bool → Option UpgradeStop → Decision
 in_time c h x kind pending heard targets full None = timely_input c h x kind pending heard targets full x.connect
-in_time c h x kind pending heard targets full (ExchangeTimeout round ms) = tick_exchange c h x.conn x.stream
-in_time c h x kind pending heard targets full (UpgradeTimeout ms) = tick_exchange c h x.conn x.stream
+in_time c h x kind pending heard targets full (Some (ExchangeTimeout round ms)) = tick_exchange c h x.conn x.stream
+in_time c h x kind pending heard targets full (Some (UpgradeTimeout ms)) = tick_exchange c h x.conn x.stream
 
 unfoldable pub exchange_input : Core → Host → Running → StreamInput → Bool → Heard → ℕ → Bool → Decision
 exchange_input c h x kind pending heard targets full = in_time c h x kind pending heard targets full (due_at c.budget h.at)

@@ -2,17 +2,16 @@
 #![tactic(auto)]
 
 ghost use Rattle.std.specs.Prelude.{◌≡◌};
-ghost use Rattle.inputs.specs.Inputs.{closing, in_exchange, write_of, first_input, round_trip, window_of, open_window, replied, later_input, timely_input, exchange_input, input_at, went_out, is_data, awaits_in, awaits, frame_bytes};
+ghost use Rattle.inputs.specs.Inputs.{closing, in_exchange, write_of, first_input, round_trip, window_of, open_window, replied, later_input, timely_input, exchange_input, input_at, went_out, is_data, awaits, frame_bytes};
 
-use budget::{UpgradeBudget, UpgradeStop};
-use circuit::decision::{Decision, Fate, Message};
+use budget::UpgradeBudget;
+use circuit::decision::{Decision, Fate, Message, Said};
 use circuit::state::{ConnectWrite, Core, Phase};
-use circuit::{decision, state};
 use ids::{ConnectionId, StreamId};
 use refusal::Refusal;
 use schedule::{BlastSchedule, NewlyDue};
 use upgrade::tick;
-use vocabulary::{Effect, Host, StreamInput};
+use vocabulary::{Host, StreamInput};
 
 // What an input's bytes bring of the reply: nothing, where they are not the reply's; so many frame bytes and no whole frame; a failure; or
 // a CONNECT.
@@ -24,15 +23,11 @@ pub enum Heard {
     Connect,
 }
 
+#[tactic(auto, unfolding(crate::specs::Inputs::closing))]
 fn is_closing(input: StreamInput) -> bool
     ensures { result ≡ closing input }
 {
-    match input {
-        StreamInput::Ready => false,
-        StreamInput::Data => false,
-        StreamInput::RemoteWriteClosed => true,
-        StreamInput::Closed => true,
-    }
+    matches!(input, StreamInput::RemoteWriteClosed | StreamInput::Closed)
 }
 
 // The running exchange.
@@ -44,60 +39,50 @@ pub struct Running {
     pub connect: ConnectWrite,
 }
 
+#[tactic(auto, unfolding(crate::specs::Inputs::in_exchange))]
 fn in_exchange(c: Core, x: Running, count: usize, connect: ConnectWrite) -> Core
     ensures { result ≡ in_exchange c x count connect }
 {
-    let conn = x.conn;
-    let stream = x.stream;
-    state::with_phase(
-        c,
-        Phase::Exchange {
-            conn: conn,
-            stream: stream,
-            count: count,
-            connect: connect,
-        },
-    )
+    c.with_phase(Phase::Exchange {
+        conn: x.conn,
+        stream: x.stream,
+        count,
+        connect,
+    })
 }
 
+#[tactic(auto, unfolding(crate::specs::Inputs::write_of))]
 fn write_of(pending: bool, at: u64) -> ConnectWrite
     ensures { result ≡ write_of pending at }
 {
     if pending {
-        return ConnectWrite::Held;
+        ConnectWrite::Held
+    } else {
+        ConnectWrite::Sent { at }
     }
-    ConnectWrite::Sent { at: at }
 }
 
 // CONNECT goes out with the first input, whatever that is; where it closes the stream the round has failed.
+#[tactic(auto, unfolding(crate::specs::Inputs::first_input, crate::specs::Inputs::closing))]
 fn first_input(c: Core, host: Host, x: Running, closing: bool, pending: bool) -> Decision
     ensures { result ≡ first_input c host x closing pending }
 {
-    let conn = x.conn;
-    let stream = x.stream;
-    let message = Message::Connect(c.connect);
+    let message = Some(Message::Connect(c.connect));
+    let said = Said::silent().sending(x.conn, x.stream, message, closing);
     if closing {
-        let said = decision::sending(decision::silent(), conn, stream, message, true);
         return rounds::fail_round(c, host, said);
     }
-    let said = decision::sending(decision::silent(), conn, stream, message, false);
-    let count = x.count;
-    let connect = write_of(pending, host.at);
-    decision::decided(
-        in_exchange(c, x, count, connect),
-        Fate::Kept,
-        said,
-        Effect::Nothing,
-    )
+    let sent = in_exchange(c, x, x.count, write_of(pending, host.at));
+    Decision::decided(sent, Fate::Kept, said, None)
 }
 
+#[tactic(auto, unfolding(crate::specs::Inputs::round_trip))]
 fn round_trip(connect: ConnectWrite, now: u64) -> u64
     ensures { result ≡ round_trip connect now }
 {
     match connect {
-        ConnectWrite::Unsent => 0,
-        ConnectWrite::Held => 0,
         ConnectWrite::Sent { at } => time::saturating_sub(now, at),
+        _ => 0,
     }
 }
 
@@ -108,65 +93,47 @@ pub struct Window {
     pub due: NewlyDue,
 }
 
+#[tactic(auto, unfolding(crate::specs::Inputs::window_of))]
 fn window_of(budget: UpgradeBudget, interval: u64, connect: ConnectWrite, at: u64) -> Window
     ensures { result ≡ window_of budget interval connect at }
 {
     let rtt = round_trip(connect, at);
     let start = schedule::blast_start(at, rtt);
     let until = budget.punch_window_end(start);
-    let due = BlastSchedule::open(start, until, interval, rtt);
     Window {
-        until: until,
-        due: due,
+        until,
+        due: BlastSchedule::open(start, until, interval, rtt),
     }
 }
 
 // SYNC goes out and the punch window opens; an instant that is due with the reply goes out before SYNC.
+#[tactic(auto, unfolding(crate::specs::Inputs::open_window))]
 fn open_window(c: Core, at: u64, x: Running, targets: usize) -> Decision
     ensures { result ≡ open_window c at x targets }
 {
-    let conn = x.conn;
-    let stream = x.stream;
-    let connect = x.connect;
-    let settings = c.settings;
-    let budget = c.budget;
-    let window = window_of(budget, settings.interval, connect, at);
+    let window = window_of(c.budget, c.settings.interval, x.connect, at);
     let due = window.due;
-    let blast = due.schedule;
-    let said = decision::sending(
-        decision::burst(due.times, settings.payload, targets),
-        conn,
-        stream,
-        Message::Sync,
+    let said = Said::burst(due.times, c.settings.payload, targets).sending(
+        x.conn,
+        x.stream,
+        Some(Message::Sync),
         true,
     );
-    let d = state::punching(c, budget.end_exchange(), window.until, blast, targets);
-    decision::decided(d, Fate::Opened(budget.deadline), said, Effect::Nothing)
+    let ended = c.budget.end_exchange();
+    let d = c.punching(ended, window.until, due.schedule, targets);
+    Decision::decided(d, Fate::Opened(c.budget.deadline), said, None)
 }
 
 // The reply, as far as it was heard; so many bytes of targets were chosen from it.
 fn reply(c: Core, host: Host, x: Running, heard: Heard, targets: usize, full: bool) -> Decision
     ensures { result ≡ replied c host x targets full heard }
 {
-    let conn = x.conn;
-    let stream = x.stream;
-    let connect = x.connect;
     match heard {
-        Heard::Nothing => {
-            return decision::quiet(c);
-        }
-        Heard::More(n) => {
-            return decision::quiet(in_exchange(c, x, n, connect));
-        }
-        Heard::Failed => {
-            return rounds::fail_round(c, host, decision::reset(conn, stream));
-        }
-        Heard::Connect => {
-            if full {
-                return decision::refused(c, Refusal::LedgerFull);
-            }
-            return open_window(c, host.at, x, targets);
-        }
+        Heard::Nothing => Decision::quiet(c),
+        Heard::More(n) => Decision::quiet(in_exchange(c, x, n, x.connect)),
+        Heard::Failed => rounds::fail_round(c, host, Said::reset(x.conn, x.stream)),
+        Heard::Connect if full => Decision::refused(c, Refusal::LedgerFull),
+        Heard::Connect => open_window(c, host.at, x, targets),
     }
 }
 
@@ -182,20 +149,11 @@ fn later_input(
 ) -> Decision
     ensures { result ≡ later_input c host x heard targets full input }
 {
-    let conn = x.conn;
-    let stream = x.stream;
     match input {
-        StreamInput::Ready => {
-            return decision::quiet(c);
-        }
-        StreamInput::Data => {
-            return reply(c, host, x, heard, targets, full);
-        }
-        StreamInput::RemoteWriteClosed => {
-            return rounds::fail_round(c, host, decision::reset(conn, stream));
-        }
-        StreamInput::Closed => {
-            return rounds::fail_round(c, host, decision::reset(conn, stream));
+        StreamInput::Ready => Decision::quiet(c),
+        StreamInput::Data => reply(c, host, x, heard, targets, full),
+        StreamInput::RemoteWriteClosed | StreamInput::Closed => {
+            rounds::fail_round(c, host, Said::reset(x.conn, x.stream))
         }
     }
 }
@@ -213,21 +171,14 @@ fn timely_input(
 ) -> Decision
     ensures { result ≡ timely_input c host x input pending heard targets full x.connect }
 {
-    let connect = x.connect;
-    match connect {
-        ConnectWrite::Unsent => {
-            return first_input(c, host, x, is_closing(input), pending);
-        }
-        ConnectWrite::Held => {
-            return later_input(c, host, x, input, heard, targets, full);
-        }
-        ConnectWrite::Sent { .. } => {
-            return later_input(c, host, x, input, heard, targets, full);
-        }
+    match x.connect {
+        ConnectWrite::Unsent => first_input(c, host, x, is_closing(input), pending),
+        _ => later_input(c, host, x, input, heard, targets, full),
     }
 }
 
 // An input can come before the tick that would have ended the exchange or the upgrade: then it does that tick.
+#[tactic(auto, unfolding(crate::specs::Inputs::exchange_input, budget::specs::Budget::due_at))]
 fn exchange_input(
     c: Core,
     host: Host,
@@ -240,20 +191,9 @@ fn exchange_input(
 ) -> Decision
     ensures { result ≡ exchange_input c host x input pending heard targets full }
 {
-    let conn = x.conn;
-    let stream = x.stream;
-    let budget = c.budget;
-    let due = budget.due(host.at);
-    match due {
-        UpgradeStop::None => {
-            return timely_input(c, host, x, input, pending, heard, targets, full);
-        }
-        UpgradeStop::ExchangeTimeout { .. } => {
-            return tick::tick_exchange(c, host, conn, stream);
-        }
-        UpgradeStop::UpgradeTimeout { .. } => {
-            return tick::tick_exchange(c, host, conn, stream);
-        }
+    match c.budget.due(host.at) {
+        None => timely_input(c, host, x, input, pending, heard, targets, full),
+        Some(_) => tick::tick_exchange(c, host, x.conn, x.stream),
     }
 }
 
@@ -271,34 +211,22 @@ pub fn input(
 ) -> Decision
     ensures { result ≡ input_at c host stream input pending heard targets full c.phase }
 {
-    let phase = c.phase;
-    match phase {
+    match c.phase {
         Phase::Exchange {
             conn,
             stream: on,
             count,
             connect,
-        } => {
-            if on.0 != stream.0 {
-                return decision::quiet(c);
-            }
+        } if on == stream => {
             let x = Running {
-                conn: conn,
-                stream: on,
-                count: count,
-                connect: connect,
+                conn,
+                stream,
+                count,
+                connect,
             };
-            return exchange_input(c, host, x, input, pending, heard, targets, full);
+            exchange_input(c, host, x, input, pending, heard, targets, full)
         }
-        Phase::Handshaking { .. } => {
-            return decision::quiet(c);
-        }
-        Phase::Punching { .. } => {
-            return decision::quiet(c);
-        }
-        Phase::Done { .. } => {
-            return decision::quiet(c);
-        }
+        _ => Decision::quiet(c),
     }
 }
 
@@ -307,70 +235,29 @@ pub fn input(
 fn went_out(connect: ConnectWrite) -> bool
     ensures { result ≡ went_out connect }
 {
-    match connect {
-        ConnectWrite::Unsent => false,
-        ConnectWrite::Held => true,
-        ConnectWrite::Sent { .. } => true,
-    }
+    !matches!(connect, ConnectWrite::Unsent)
 }
 
 fn is_data(input: StreamInput) -> bool
     ensures { result ≡ is_data input }
 {
-    match input {
-        StreamInput::Data => true,
-        StreamInput::Ready => false,
-        StreamInput::RemoteWriteClosed => false,
-        StreamInput::Closed => false,
-    }
+    matches!(input, StreamInput::Data)
 }
 
 // Data on the exchange's stream that comes in time, once CONNECT has gone out.
-fn awaits_in(
-    budget: UpgradeBudget,
-    at: u64,
-    on: StreamId,
-    connect: ConnectWrite,
-    stream: StreamId,
-    input: StreamInput,
-) -> bool
-    ensures { result ≡ awaits_in budget at on connect stream input }
-{
-    if on.0 != stream.0 {
-        return false;
-    }
-    if budget.next_deadline() <= at {
-        return false;
-    }
-    if went_out(connect) {
-        return is_data(input);
-    }
-    false
-}
-
+#[tactic(auto, unfolding(crate::specs::Inputs::awaits_in))]
 pub fn awaits_reply(c: Core, at: u64, stream: StreamId, input: StreamInput) -> bool
     ensures { result ≡ awaits c at stream input c.phase }
 {
-    let budget = c.budget;
-    let phase = c.phase;
-    match phase {
+    match c.phase {
         Phase::Exchange {
-            conn: _,
             stream: on,
-            count: _,
             connect,
+            ..
         } => {
-            return awaits_in(budget, at, on, connect, stream, input);
+            on == stream && at < c.budget.next_deadline() && went_out(connect) && is_data(input)
         }
-        Phase::Handshaking { .. } => {
-            return false;
-        }
-        Phase::Punching { .. } => {
-            return false;
-        }
-        Phase::Done { .. } => {
-            return false;
-        }
+        _ => false,
     }
 }
 
@@ -379,22 +266,7 @@ pub fn frame_bytes(phase: Phase) -> usize
     ensures { result ≡ frame_bytes phase }
 {
     match phase {
-        Phase::Exchange {
-            conn: _,
-            stream: _,
-            count,
-            connect: _,
-        } => {
-            return count;
-        }
-        Phase::Handshaking { .. } => {
-            return 0;
-        }
-        Phase::Punching { .. } => {
-            return 0;
-        }
-        Phase::Done { .. } => {
-            return 0;
-        }
+        Phase::Exchange { count, .. } => count,
+        _ => 0,
     }
 }

@@ -6,6 +6,7 @@ use Prim.Native.Nat.{ℕ, ◌*◌, ◌<◌, ◌≤◌}
 use native.Mathlib.Omega.{arith}
 use lib.Dec.{ltb}
 use lib.ListN.{length, take, replicate}
+use Rattle.std.specs.Prelude.{None, Option, Some}
 use Rattle.prelude.specs.Choice.{pick}
 use Rattle.text.specs.Printed.{printed, behind}
 use Rattle.text.proofs.Printing.{laid_none, fits}
@@ -13,7 +14,6 @@ use Rattle.refusal.specs.declared.Refusal.TheVariants.{UnknownLine}
 use Rattle.wire.specs.Frame.{max_frame_size}
 use Rattle.line_program.specs.declared.Reading.{Reading}
 use Rattle.line_program.specs.Reads.{left, NextLine}
-use Rattle.journal_lines.specs.declared.First.{First}
 use Rattle.journal_prints.specs.Room.{room, is_refused}
 use Rattle.journal_prints.proofs.Room.{short}
 use Rattle.lines.specs.Lines.{longest}
@@ -26,13 +26,13 @@ use Rattle.journal.specs.declared.Ending.{Ending}
 use Rattle.journal.specs.Steps.{State, state, taken, put}
 use Rattle.journal.specs.Runs.{Ran, replayed, Replayed}
 use Rattle.line_program.proofs.GoingOn.{apart}
-use Rattle.journal_lines.specs.declared.First.TheVariants as first
+use Rattle.vocabulary.specs.declared.Settings.{Settings}
 
 -- a first line that is not good prints its refusal, for which there is room
-refusing : (f : First) → is_good f ≡ false → (out : List ℕ) → 4 * room ≤ length out
+refusing : (f : Option Settings) → is_good f ≡ false → (out : List ℕ) → 4 * room ≤ length out
     → take (behind out 0 (opening_text f)) (printed out 0 (opening_text f)) ≡ opening_text f
-refusing (first.Settings s) g out h = apart g
-refusing first.Unknown g out h = fits out (opening_text first.Unknown) (omega (arith, short (is_refused 0 UnknownLine (omega arith))))
+refusing (Some s) g out h = apart g
+refusing None g out h = fits out (opening_text None) (omega (arith, short (is_refused 0 UnknownLine (omega arith))))
 
 -- what the definitions say in each case
 module _ (reply out : List ℕ) (ls : List Line) where
@@ -58,12 +58,12 @@ unfolding opening
 good_text l rest n = rw n
 
 module _ (reply out : List ℕ) (zero : reply ≡ replicate max_frame_size 0) (ho : 4 * room ≤ length out) (lent : Numbers → Journal)
-    (blank : (f : First) → lent (state_of (opened f)) ≡ opened f) {line block line' : List ℕ} {r : Reading} (x : NextLine line [] block line' r) (hl : longest ≤ length line) where
+    (blank : (f : Option Settings) → lent (state_of (opened f)) ≡ opened f) {line block line' : List ℕ} {r : Reading} (x : NextLine line [] block line' r) (hl : longest ≤ length line) where
   abbrev rest : List ℕ
   rest = left block r.from r.until
 
   -- what the buffer says of the first line
-  abbrev said : First
+  abbrev said : (Option Settings)
   said = first_of (take r.used line') r.ended
 
   abbrev l : Line
@@ -119,11 +119,11 @@ module _ (reply out : List ℕ) (zero : reply ≡ replicate max_frame_size 0) (h
           replies = sym (ap (λ (z : State). z.reply) (bad_state reply out ls r.failed v n));
           prints =
               p
-              ∙ ap (λ (z : First). printed out 0 (opening_text z)) same
+              ∙ ap (λ (z : Option Settings). printed out 0 (opening_text z)) same
               ∙ sym (ap (λ (z : State). z.out) (bad_state reply out ls r.failed v n));
           waits =
               b
-              ∙ ap (λ (z : First). behind out 0 (opening_text z)) same
+              ∙ ap (λ (z : Option Settings). behind out 0 (opening_text z)) same
               ∙ sym (ap (λ (z : State). z.waiting) (bad_state reply out ls r.failed v n));
           text = shown ∙ sym (ap (λ (t : Bool). pick t [] (text_of ls)) v ∙ bad_text ls n);
           stopped = λ _ _ _ good. apart (sym good ∙ n);

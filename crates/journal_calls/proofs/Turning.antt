@@ -5,6 +5,7 @@ use mathlib.Core.Bool.{Bool, true, false}
 use mathlib.Core.List.{List}
 use Prim.Native.Nat.{ℕ}
 use lib.ListN.{length}
+use Rattle.std.specs.Prelude.{Err, None, Ok, Option, Result, Some, ⊤}
 use Rattle.rows.specs.Words.{ledger_words}
 use Rattle.prelude.specs.Choice.{pick}
 use Rattle.refusal.specs.declared.Refusal.{Refusal}
@@ -17,18 +18,12 @@ use Rattle.ids.specs.declared.NatToken.{NatToken}
 use Rattle.ids.specs.declared.ConnectId.{ConnectId}
 use Rattle.path.specs.declared.DialPurpose.TheVariants.{Punch}
 use Rattle.path.specs.declared.Claim.{Claim}
-use Rattle.path.specs.declared.FoundPath.{FoundPath}
-use Rattle.path.specs.declared.FoundPath.TheVariants as found
 use Rattle.rows.specs.Rows.{crowded}
-use Rattle.ledger.specs.declared.Answer.{Answer as Naming}
-use Rattle.ledger.specs.declared.Answer.TheVariants as name
 use Rattle.ledger.specs.Ledger.{PathLedger, Attributed, tables_of, laid, full_or, dial_started, dial_row, with_dials, judged_by, path_row, with_paths, recorded, attributed, forgotten, dials_of, paths_of}
 use Rattle.rows.specs.Rows.{inserted}
 use Rattle.ledger.proofs.Laws.{laid_same}
 use Rattle.vocabulary.specs.declared.Host.{Host}
 use Rattle.vocabulary.specs.declared.StreamInput.{StreamInput}
-use Rattle.vocabulary.specs.declared.Outcome.{Outcome}
-use Rattle.vocabulary.specs.declared.Outcome.TheVariants.{Accepted, Refused}
 use Rattle.circuit.specs.declared.state.Core.{Core}
 use Rattle.circuit.specs.declared.decision.Decision.{Decision}
 use Rattle.circuit.specs.State.{terms_of}
@@ -43,6 +38,7 @@ use Rattle.journal_calls.specs.declared.State.{State}
 use Rattle.journal_calls.specs.declared.Turn.{Turn}
 use Rattle.journal_calls.specs.declared.Said.TheVariants as said
 use Rattle.journal_calls.specs.Calls.{Journal, state_of, whole, Turned, turned, silent, refused, naming, saying, settled_in, Leaves, settled, started_by, start_turn, started_in, cleared_by, started, up_turn, input_turn, expired, tick_turn, wrote_turn, down_turn, said_of, dialed_by, dial_turn, forget_turn, claim_for, named_by, attribute_turn, named_as}
+use Rattle.path.specs.declared.Attribution.{Attribution}
 
 -- ---- what a refused decision leaves
 
@@ -89,7 +85,7 @@ module _ (s : State) (connect targets ws sent : List ℕ) (long : length ws ≡ 
   -- a refused decision leaves the bytes and the ledger as they were
   abbrev Stays : Decision → Leaves → Type 0
   Stays d x =
-      (why : Refusal) → d.outcome ≡ Refused why
+      (why : Refusal) → d.outcome ≡ Err why
       → (x.connect ≡ connect) × ((x.targets ≡ targets) × ((x.ledger ≡ tables_of ws) × ((x.words ≡ ws) × (sent_after connect sent d.message ≡ sent))))
 
   settled_left : (d : Decision) (x : Leaves) → Stays d x → {r : Turn} {c a n zs : List ℕ} → r ≡ settled_in s d d.outcome → c ≡ x.connect
@@ -97,30 +93,30 @@ module _ (s : State) (connect targets ws sent : List ℕ) (long : length ws ≡ 
   unfolding refused saying
   settled_left d x stays {r} {c} {a} {n} {zs} e p q u v w = go d.outcome refl e
     where
-      go : (o : Outcome) → d.outcome ≡ o → r ≡ settled_in s d o → Left (settled j d x o) r c a n zs
-      go Accepted f e = (e, (p, (q, (u, (v, w)))))
-      go (Refused why) f e =
+      go : (o : Result ⊤ Refusal) → d.outcome ≡ o → r ≡ settled_in s d o → Left (settled j d x o) r c a n zs
+      go (Ok tt) f e = (e, (p, (q, (u, (v, w)))))
+      go (Err why) f e =
           let z = stays why f in
           (e, (p ∙ z.0, (q ∙ z.1.0, (u ∙ z.1.1.1.1, (v ∙ z.1.1.0, w ∙ z.1.1.1.0)))))
 
   -- ---- up, input and tick
 
   module _ (own : List ℕ) (d : Decision) (turned : Whole s.core d) where
-    stays_connect : (why : Refusal) → d.outcome ≡ Refused why → connect_after (terms_of s.core.settings) own connect d.fourth ≡ connect
+    stays_connect : (why : Refusal) → d.outcome ≡ Err why → connect_after (terms_of s.core.settings) own connect d.fourth ≡ connect
     stays_connect why e = ap (λ (z : Decision). connect_after (terms_of s.core.settings) own connect z.fourth) (turned why e) ∙ kept_connect s.core own connect sent why
 
-    stays_sent : (why : Refusal) → d.outcome ≡ Refused why → sent_after connect sent d.message ≡ sent
+    stays_sent : (why : Refusal) → d.outcome ≡ Err why → sent_after connect sent d.message ≡ sent
     stays_sent why e = ap (λ (z : Decision). sent_after connect sent z.message) (turned why e) ∙ kept_sent s.core own connect sent why
 
-    stays_ledger : (why : Refusal) → d.outcome ≡ Refused why → ledger_after s.core.source (tables_of ws) d.window ≡ tables_of ws
+    stays_ledger : (why : Refusal) → d.outcome ≡ Err why → ledger_after s.core.source (tables_of ws) d.window ≡ tables_of ws
     stays_ledger why e =
         ap (λ (z : Decision). ledger_after s.core.source (tables_of ws) z.window) (turned why e)
         ∙ kept_ledger s.core own connect sent why s.core.source (tables_of ws)
 
-    stays_words : (why : Refusal) → d.outcome ≡ Refused why → laid (ledger_after s.core.source (tables_of ws) d.window) ws ≡ ws
+    stays_words : (why : Refusal) → d.outcome ≡ Err why → laid (ledger_after s.core.source (tables_of ws) d.window) ws ≡ ws
     stays_words why e = ap (λ (l : PathLedger). laid l ws) (stays_ledger why e) ∙ laid_same ws long
 
-    stays_aims : (q : Chosen) (why : Refusal) → d.outcome ≡ Refused why → targets_after targets q d.window ≡ targets
+    stays_aims : (q : Chosen) (why : Refusal) → d.outcome ≡ Err why → targets_after targets q d.window ≡ targets
     stays_aims q why e = ap (λ (z : Decision). targets_after targets q z.window) (turned why e) ∙ kept_aims s.core targets q why
 
   pub up_left : (h : Host) (own : List ℕ) (peer : PeerId) (conn : ConnectionId) (relayed : Bool) {r : Turn} {c n zs : List ℕ}
@@ -164,12 +160,12 @@ module _ (s : State) (connect targets ws sent : List ℕ) (long : length ws ≡ 
       l : PathLedger
       l = ledger_after s.core.source (tables_of ws) (tick_of s.core h own).window
 
-      ledger : (why : Refusal) → d.outcome ≡ Refused why → expired d.outcome l h.at ≡ tables_of ws
-      ledger why e = ap (λ (o : Outcome). expired o l h.at) e ∙ stays_ledger own d w why e
+      ledger : (why : Refusal) → d.outcome ≡ Err why → expired d.outcome l h.at ≡ tables_of ws
+      ledger why e = ap (λ (o : Result ⊤ Refusal). expired o l h.at) e ∙ stays_ledger own d w why e
 
-      words : (why : Refusal) → d.outcome ≡ Refused why → laid (expired d.outcome l h.at) (laid l ws) ≡ ws
+      words : (why : Refusal) → d.outcome ≡ Err why → laid (expired d.outcome l h.at) (laid l ws) ≡ ws
       words why e =
-          ap (λ (o : Outcome). laid (expired o l h.at) (laid l ws)) e
+          ap (λ (o : Result ⊤ Refusal). laid (expired o l h.at) (laid l ws)) e
           ∙ ap (λ (z : List ℕ). laid l z) (stays_words own d w why e) ∙ stays_words own d w why e
 
   pub input_left : (h : Host) (own reply : List ℕ) (stream : StreamId) (k : StreamInput) (bytes : List ℕ) (pending : Bool) {e : Decision}
@@ -226,9 +222,9 @@ module _ (s : State) (connect targets ws sent : List ℕ) (long : length ws ≡ 
       d : Decision
       d = started_of source relay conn s.settings at
 
-      go : (o : Outcome) → r ≡ started_in s d o → c ≡ cleared_by o no_frame connect → a ≡ cleared_by o no_aims targets → Left (started_by j d.core o) r c a sent ws
-      go Accepted e f g = (e, (f, (g, (refl, (refl, refl)))))
-      go (Refused why) e f g = (e, (f, (g, (refl, (refl, refl)))))
+      go : (o : Result ⊤ Refusal) → r ≡ started_in s d o → c ≡ cleared_by o no_frame connect → a ≡ cleared_by o no_aims targets → Left (started_by j d.core o) r c a sent ws
+      go (Ok tt) e f g = (e, (f, (g, (refl, (refl, refl)))))
+      go (Err why) e f g = (e, (f, (g, (refl, (refl, refl)))))
 
   -- ---- the ledger's calls
 
@@ -268,13 +264,13 @@ module _ (s : State) (connect targets ws sent : List ℕ) (long : length ws ≡ 
           (r ≡ saying s (named_as a.answer)) × ((tables_of zs ≡ a.ledger) × (zs ≡ laid a.ledger ws))
           → Left (named_by j a.ledger a.answer) r connect targets sent zs
 
-      go : (f : FoundPath) → Of (recorded (tables_of ws) conn f)
-      go found.None p = (p.0, (refl, (refl, (refl, (p.1.0, p.1.1)))))
-      go (found.At x) p = by (crowded conn.0 (paths_of (tables_of ws))) p
+      go : (f : Option Attribution) → Of (recorded (tables_of ws) conn f)
+      go None p = (p.0, (refl, (refl, (refl, (p.1.0, p.1.1)))))
+      go (Some x) p = by (crowded conn.0 (paths_of (tables_of ws))) p
         where
           by : (v : Bool)
-              → Of (pick v (record { ledger = tables_of ws; answer = name.Refused LedgerFull })
-              (record { ledger = with_paths (tables_of ws) (inserted (path_row conn x) (paths_of (tables_of ws))); answer = name.Path x }))
+              → Of (pick v (record { ledger = tables_of ws; answer = Err LedgerFull })
+              (record { ledger = with_paths (tables_of ws) (inserted (path_row conn x) (paths_of (tables_of ws))); answer = Ok (Some x) }))
           by true p = (p.0, (refl, (refl, (refl, (p.1.0, p.1.1 ∙ laid_same ws long)))))
           by false p = (p.0, (refl, (refl, (refl, (p.1.0, p.1.1)))))
 
@@ -291,16 +287,16 @@ module _ (s : State) (d : Decision) (connect targets : List ℕ) where
   Started r c a =
       (r ≡ started_in s d d.outcome) × ((c ≡ cleared_by d.outcome no_frame connect) × (a ≡ cleared_by d.outcome no_aims targets))
 
-  pub start_refused : {e : Decision} {why : Refusal} {r : Turn} → e ≡ d → e.outcome ≡ Refused why → r ≡ saying s (said.Refused why)
+  pub start_refused : {e : Decision} {why : Refusal} {r : Turn} → e ≡ d → e.outcome ≡ Err why → r ≡ saying s (said.Refused why)
       → Started r connect targets
   start_refused {e} {why} {r} i f g =
-      let h : d.outcome ≡ Refused why = ap (λ (z : Decision). z.outcome) (sym i) ∙ f in
+      let h : d.outcome ≡ Err why = ap (λ (z : Decision). z.outcome) (sym i) ∙ f in
       rw h (g, (refl, refl))
 
-  pub start_accepted : {e : Decision} {r : Turn} {c a : List ℕ} → e ≡ d → e.outcome ≡ Accepted
+  pub start_accepted : {e : Decision} {r : Turn} {c a : List ℕ} → e ≡ d → e.outcome ≡ Ok tt
       → r ≡ saying (record { n = s.n; begun = true; settings = s.settings; core = e.core }) said.Effects → (c ≡ no_frame) × (a ≡ no_aims) → Started r c a
   start_accepted {e} {r} {c} {a} i f g p =
-      let h : d.outcome ≡ Accepted = ap (λ (z : Decision). z.outcome) (sym i) ∙ f in
+      let h : d.outcome ≡ Ok tt = ap (λ (z : Decision). z.outcome) (sym i) ∙ f in
       rw h (g ∙ ap (λ (z : Decision). saying (record { n = s.n; begun = true; settings = s.settings; core = z.core }) said.Effects) i, p)
 
 -- the ledger ticks behind the circuit
@@ -326,11 +322,11 @@ ticked_turn s d at source l ws ys {zs} {C} {S} {r} {e} q p o = (
   ),
 )
 
-pub named_turn : (s : State) (l : PathLedger) (conn : ConnectionId) (peer : PeerId) (relayed : Bool) (at : ℕ) (ws : List ℕ) {x : Claim} {a : Naming} {r : Turn} {y : Naming}
+pub named_turn : (s : State) (l : PathLedger) (conn : ConnectionId) (peer : PeerId) (relayed : Bool) (at : ℕ) (ws : List ℕ) {x : Option Claim} {a : Result (Option Attribution) Refusal} {r : Turn} {y : Result (Option Attribution) Refusal}
     {zs : List ℕ} → x ≡ claim_for s.core conn relayed → a ≡ y → r ≡ saying s (named_as y)
     → (a ≡ (attributed l conn peer relayed x at).answer) × ((tables_of zs ≡ (attributed l conn peer relayed x at).ledger) × (zs ≡ laid (attributed l conn peer relayed x at).ledger ws))
     → (r ≡ saying s (named_as (attributed l conn peer relayed (claim_for s.core conn relayed) at).answer))
     × ((tables_of zs ≡ (attributed l conn peer relayed (claim_for s.core conn relayed) at).ledger)
     × (zs ≡ laid (attributed l conn peer relayed (claim_for s.core conn relayed) at).ledger ws))
 named_turn s l conn peer relayed at ws {x} {a} {r} {y} {zs} e f g p =
-    rw (← e) (g ∙ ap (λ (z : Naming). saying s (named_as z)) (sym f ∙ p.0), p.1)
+    rw (← e) (g ∙ ap (λ (z : Result (Option Attribution) Refusal). saying s (named_as z)) (sym f ∙ p.0), p.1)

@@ -1,5 +1,5 @@
 -- What the calls of a journal's lines do (RULES.md, sections 12.5 to 12.7): the journal after a call, and what is said of it.
-use Rattle.std.specs.Prelude.{ℕ, Bool, true, false, List, replicate}
+use Rattle.std.specs.Prelude.{ℕ, Bool, true, false, List, replicate, Err, None, Ok, Option, Result, Some, ⊤}
 use Rattle.rows.specs.Words.{ledger_words}
 use Rattle.prelude.specs.Choice.{pick}
 use Rattle.refusal.specs.declared.Refusal.{Refusal}
@@ -10,14 +10,10 @@ use Rattle.ids.specs.declared.NatToken.{NatToken}
 use Rattle.ids.specs.declared.ConnectId.{ConnectId}
 use Rattle.path.specs.declared.Claim.{Claim}
 use Rattle.path.specs.declared.DialPurpose.TheVariants.{Punch}
-use Rattle.path.specs.declared.FoundPath.{FoundPath}
-use Rattle.ledger.specs.declared.Answer.{Answer as Naming}
 use Rattle.ledger.specs.Ledger.{PathLedger, Recorded, Attributed, empty_ledger, laid, dial_started, forgotten, attributed, ticked}
 use Rattle.vocabulary.specs.declared.Settings.{Settings}
 use Rattle.vocabulary.specs.declared.Host.{Host}
 use Rattle.vocabulary.specs.declared.StreamInput.{StreamInput}
-use Rattle.vocabulary.specs.declared.Effect.TheVariants.{Nothing}
-use Rattle.vocabulary.specs.declared.Outcome.{Outcome}
 use Rattle.circuit.specs.declared.state.Core.{Core}
 use Rattle.circuit.specs.declared.decision.Decision.{Decision}
 use Rattle.inbound.specs.declared.InboundCircuit.{InboundCircuit}
@@ -34,10 +30,8 @@ use Rattle.journal_calls.specs.declared.State.{State}
 use Rattle.journal_calls.specs.declared.Said.{Said}
 use Rattle.journal_calls.specs.declared.Turn.{Turn}
 use Rattle.path.specs.declared.Claim.TheVariants as claim
-use Rattle.path.specs.declared.FoundPath.TheVariants as found
-use Rattle.ledger.specs.declared.Answer.TheVariants as name
-use Rattle.vocabulary.specs.declared.Outcome.TheVariants as outcome
 use Rattle.journal_calls.specs.declared.Said.TheVariants as said
+use Rattle.path.specs.declared.Attribution.{Attribution}
 
 -- ---- the journal
 
@@ -117,7 +111,7 @@ abbrev pub turned : Turn → (connect targets : List ℕ) → PathLedger → (wo
 turned t connect targets l words sent = record { journal = whole t.state connect targets l words sent; said = t.said; effects = t.effects }
 
 unfoldable pub no_effects : Effects
-no_effects = record { first = Nothing; second = Nothing; third = Nothing; fourth = Nothing; message = 0; targets = 0; took = false }
+no_effects = record { first = None; second = None; third = None; fourth = None; message = 0; targets = 0; took = false }
 
 -- no effect that is printed
 unfoldable pub silent : Journal → Turned
@@ -128,7 +122,7 @@ unfoldable pub refused : Journal → Refusal → Turned
 refused j why = record { journal = j; said = said.Refused why; effects = no_effects }
 
 -- a connection is named
-unfoldable pub naming : Journal → FoundPath → Turned
+unfoldable pub naming : Journal → Option Attribution → Turned
 naming j f = record { journal = j; said = said.Attributed f; effects = no_effects }
 
 unfoldable pub saying : State → Said → Turn
@@ -151,9 +145,9 @@ abbrev pub with_core : State → Core → State
 with_core s c = record { n = s.n; begun = s.begun; settings = s.settings; core = c }
 
 -- the circuit's decision; a refused call changes nothing
-abbrev pub settled_in : State → Decision → Outcome → Turn
-settled_in s d outcome.Accepted = record { state = with_core s d.core; said = said.Effects; effects = effects_of d }
-settled_in s d (outcome.Refused why) = saying s (said.Refused why)
+abbrev pub settled_in : State → Decision → Result ⊤ Refusal → Turn
+settled_in s d (Ok tt) = record { state = with_core s d.core; said = said.Effects; effects = effects_of d }
+settled_in s d (Err why) = saying s (said.Refused why)
 
 -- with the bytes and the ledger that it leaves, and how this lies in its words
 pub record Leaves : Type 0 where
@@ -162,8 +156,8 @@ pub record Leaves : Type 0 where
   pub ledger : PathLedger
   pub words : List ℕ
 
-abbrev pub settled : Journal → Decision → Leaves → Outcome → Turned
-settled j d x outcome.Accepted =
+abbrev pub settled : Journal → Decision → Leaves → Result ⊤ Refusal → Turned
+settled j d x (Ok tt) =
     record {
       journal = record {
         n = j.n;
@@ -177,14 +171,14 @@ settled j d x outcome.Accepted =
       said = said.Effects;
       effects = effects_of d;
     }
-settled j d x (outcome.Refused why) = refused j why
+settled j d x (Err why) = refused j why
 
 -- ---- the calls (section 12.5)
 
 -- start (section 11.3): a refused one leaves the circuit before it in place
-abbrev pub started_by : Journal → Core → Outcome → Turned
-started_by j c outcome.Accepted = silent (started j c)
-started_by j c (outcome.Refused why) = refused j why
+abbrev pub started_by : Journal → Core → Result ⊤ Refusal → Turned
+started_by j c (Ok tt) = silent (started j c)
+started_by j c (Err why) = refused j why
 
 abbrev pub start_in : Journal → Decision → Turned
 start_in j d = started_by j d.core d.outcome
@@ -193,13 +187,13 @@ unfoldable pub start_turn : Journal → ℕ → PeerId → PeerId → Connection
 start_turn j at source relay conn = start_in j (started_of source relay conn j.settings at)
 
 -- of its numbers, and of lent bytes that it clears
-abbrev pub started_in : State → Decision → Outcome → Turn
-started_in s d outcome.Accepted = saying (record { n = s.n; begun = true; settings = s.settings; core = d.core }) said.Effects
-started_in s d (outcome.Refused why) = saying s (said.Refused why)
+abbrev pub started_in : State → Decision → Result ⊤ Refusal → Turn
+started_in s d (Ok tt) = saying (record { n = s.n; begun = true; settings = s.settings; core = d.core }) said.Effects
+started_in s d (Err why) = saying s (said.Refused why)
 
-abbrev pub cleared_by : Outcome → List ℕ → List ℕ → List ℕ
-cleared_by outcome.Accepted none bytes = none
-cleared_by (outcome.Refused why) none bytes = bytes
+abbrev pub cleared_by : Result ⊤ Refusal → List ℕ → List ℕ → List ℕ
+cleared_by (Ok tt) none bytes = none
+cleared_by (Err why) none bytes = bytes
 
 -- the source's window in the ledger
 abbrev pub ledger_by : Journal → Decision → PathLedger
@@ -246,9 +240,9 @@ input_turn j h own reply stream k bytes pending =
     heard j h.at own reply stream k bytes (decided_at j.circuit j.ledger h own reply stream k bytes pending)
 
 -- tick (section 11.6): the ledger is ticked behind the circuit (section 10.3), and not where the tick is refused
-abbrev pub expired : Outcome → PathLedger → ℕ → PathLedger
-expired outcome.Accepted l at = ticked l at
-expired (outcome.Refused why) l at = l
+abbrev pub expired : Result ⊤ Refusal → PathLedger → ℕ → PathLedger
+expired (Ok tt) l at = ticked l at
+expired (Err why) l at = l
 
 abbrev pub tick_in : Journal → ℕ → (own : List ℕ) → Decision → Turned
 tick_in j at own d =
@@ -278,9 +272,9 @@ unfoldable pub down_turn : Journal → ConnectionId → Turned
 down_turn j conn = plainly j (down_of j.circuit.core conn)
 
 -- dial: a punch dial of the attempt is started (section 10.2)
-abbrev pub dialed_by : Journal → PathLedger → Outcome → Turned
-dialed_by j l outcome.Accepted = silent (with_ledger j l)
-dialed_by j l (outcome.Refused why) = refused j why
+abbrev pub dialed_by : Journal → PathLedger → Result ⊤ Refusal → Turned
+dialed_by j l (Ok tt) = silent (with_ledger j l)
+dialed_by j l (Err why) = refused j why
 
 abbrev pub dial_in : Journal → Recorded → Turned
 dial_in j r = dialed_by j r.ledger r.outcome
@@ -288,22 +282,22 @@ dial_in j r = dialed_by j r.ledger r.outcome
 unfoldable pub dial_turn : Journal → ConnectionId → NatToken → ConnectId → Turned
 dial_turn j conn token id = dial_in j (dial_started j.ledger conn token (Punch id))
 
-abbrev pub said_of : Outcome → Said
-said_of outcome.Accepted = said.Effects
-said_of (outcome.Refused why) = said.Refused why
+abbrev pub said_of : Result ⊤ Refusal → Said
+said_of (Ok tt) = said.Effects
+said_of (Err why) = said.Refused why
 
 -- forget (section 10.6)
 unfoldable pub forget_turn : Journal → ConnectionId → Turned
 forget_turn j conn = silent (with_ledger j (forgotten j.ledger conn).ledger)
 
 -- attribute (section 10.5): only a circuit carries the circuit's own claim (section 11.9)
-unfoldable pub claim_for : Core → ConnectionId → Bool → Claim
-claim_for c conn relayed = pick relayed (claim_of c conn) claim.None
+unfoldable pub claim_for : Core → ConnectionId → Bool → Option Claim
+claim_for c conn relayed = pick relayed (claim_of c conn) None
 
-abbrev pub named_by : Journal → PathLedger → Naming → Turned
-named_by j l (name.Path a) = naming (with_ledger j l) (found.At a)
-named_by j l name.None = naming (with_ledger j l) found.None
-named_by j l (name.Refused why) = refused j why
+abbrev pub named_by : Journal → PathLedger → Result (Option Attribution) Refusal → Turned
+named_by j l (Ok (Some a)) = naming (with_ledger j l) (Some a)
+named_by j l (Ok None) = naming (with_ledger j l) None
+named_by j l (Err why) = refused j why
 
 abbrev pub attribute_in : Journal → Attributed → Turned
 attribute_in j a = named_by j a.ledger a.answer
@@ -312,7 +306,6 @@ unfoldable pub attribute_turn : Journal → ℕ → PeerId → ConnectionId → 
 attribute_turn j at peer conn relayed =
     attribute_in j (attributed j.ledger conn peer relayed (claim_for j.circuit.core conn relayed) at)
 
-abbrev pub named_as : Naming → Said
-named_as (name.Path a) = said.Attributed (found.At a)
-named_as name.None = said.Attributed found.None
-named_as (name.Refused why) = said.Refused why
+abbrev pub named_as : Result (Option Attribution) Refusal → Said
+named_as (Ok found) = said.Attributed found
+named_as (Err why) = said.Refused why

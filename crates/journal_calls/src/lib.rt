@@ -19,9 +19,9 @@ use ids::{ConnectId, ConnectionId, NatToken, PeerId, StreamId};
 use journal_effects::Effects;
 use ledger::Ledger;
 use lent::TargetBytes;
-use path::{Claim, DialPurpose, FoundPath};
+use path::{Attribution, Claim, DialPurpose};
 use refusal::Refusal;
-use vocabulary::{Effect, Host, Outcome, Settings, StreamInput};
+use vocabulary::{Host, Settings, StreamInput};
 
 // ---- the state
 
@@ -39,7 +39,7 @@ pub struct State {
 #[derive(Clone, Copy)]
 pub enum Said {
     Effects,
-    Attributed(FoundPath),
+    Attributed(Option<Attribution>),
     Refused(Refusal),
 }
 
@@ -53,48 +53,43 @@ pub struct Turn {
 
 // ---- what is said
 
+#[tactic(auto, unfolding(crate::specs::Calls::no_effects))]
 fn no_effects() -> Effects
     ensures { result ≡ no_effects }
 {
     Effects {
-        first: Effect::Nothing,
-        second: Effect::Nothing,
-        third: Effect::Nothing,
-        fourth: Effect::Nothing,
+        first: None,
+        second: None,
+        third: None,
+        fourth: None,
         message: 0,
         targets: 0,
         took: false,
     }
 }
 
+#[tactic(auto, unfolding(crate::specs::Calls::saying))]
 pub fn say(j: State, said: Said) -> Turn
     ensures { result ≡ saying j said }
 {
-    let effects = no_effects();
     Turn {
         state: j,
-        said: said,
-        effects: effects,
+        said,
+        effects: no_effects(),
     }
 }
 
+#[tactic(auto, unfolding(crate::specs::Calls::effects_of))]
 fn effects_of(d: Decision) -> Effects
     ensures { result ≡ effects_of d }
 {
-    let core = d.core;
-    let first = d.first;
-    let second = d.second;
-    let third = d.third;
-    let fourth = d.fourth;
-    let message = d.message;
-    let size = decision::message_size(message);
     Effects {
-        first: first,
-        second: second,
-        third: third,
-        fourth: fourth,
-        message: size,
-        targets: core.targets,
+        first: d.first,
+        second: d.second,
+        third: d.third,
+        fourth: d.fourth,
+        message: decision::message_size(d.message),
+        targets: d.core.targets,
         took: d.took,
     }
 }
@@ -103,20 +98,13 @@ fn effects_of(d: Decision) -> Effects
 fn settle(j: State, d: Decision) -> Turn
     ensures { result ≡ settled_in j d d.outcome }
 {
-    let outcome = d.outcome;
-    let core = d.core;
-    match outcome {
-        Outcome::Refused(why) => {
-            return say(j, Said::Refused(why));
-        }
-        Outcome::Accepted => {
-            let effects = effects_of(d);
-            return Turn {
-                state: State { core: core, ..j },
-                said: Said::Effects,
-                effects: effects,
-            };
-        }
+    match d.outcome {
+        Err(why) => say(j, Said::Refused(why)),
+        Ok(()) => Turn {
+            state: State { core: d.core, ..j },
+            said: Said::Effects,
+            effects: effects_of(d),
+        },
     }
 }
 
@@ -136,24 +124,17 @@ pub fn start_turn(
     ensures connect { connect.new ≡ cleared_by (started_of source relay circuit j.settings at).outcome no_frame connect.old }
     ensures targets { targets.new ≡ cleared_by (started_of source relay circuit j.settings at).outcome no_aims targets.old }
 {
-    let settings = j.settings;
-    let d = Core::new(source, relay, circuit, settings, at);
-    let outcome = d.outcome;
-    let core = d.core;
-    match outcome {
-        Outcome::Refused(why) => {
-            return say(j, Said::Refused(why));
-        }
-        Outcome::Accepted => {
+    let d = Core::new(source, relay, circuit, j.settings, at);
+    match d.outcome {
+        Err(why) => say(j, Said::Refused(why)),
+        Ok(()) => {
             lent::calls::clear(connect, targets);
-            return say(
-                State {
-                    begun: true,
-                    core: core,
-                    ..j
-                },
-                Said::Effects,
-            );
+            let started = State {
+                begun: true,
+                core: d.core,
+                ..j
+            };
+            say(started, Said::Effects)
         }
     }
 }
@@ -175,9 +156,8 @@ pub fn up_turn(
     ensures tables { tables_of ledger.new ≡ ledger_after j.core.source (tables_of ledger.old) (up_of j.core host own.now peer conn circuit).window }
     ensures words { ledger.new ≡ laid (ledger_after j.core.source (tables_of ledger.old) (up_of j.core host own.now peer conn circuit).window) ledger.old }
 {
-    let core = j.core;
     let d = lent::calls::on_connection_established(
-        core, connect, sent, ledger, host, own, peer, conn, circuit,
+        j.core, connect, sent, ledger, host, own, peer, conn, circuit,
     );
     settle(j, d)
 }
@@ -200,21 +180,20 @@ pub fn input_turn(
     ensures reply { reply.new ≡ (input_turn (whole j connect.old targets.old (tables_of ledger.old) ledger.old sent.old) host own.now reply.old stream kind bytes.now pending).reply }
 {
     rows::known(ledger);
-    let core = j.core;
     let d = lent::calls::on_dcutr_stream_input(
-        core, connect, targets, sent, ledger, reply, host, own, stream, kind, bytes, pending,
+        j.core, connect, targets, sent, ledger, reply, host, own, stream, kind, bytes, pending,
     );
     settle(j, d)
 }
 
 // The ledger ticks behind the circuit, where the circuit's tick is accepted.
-fn expire(outcome: Outcome, ledger: &mut Ledger, at: u64)
+fn expire(outcome: Result<(), Refusal>, ledger: &mut Ledger, at: u64)
     ensures tables { tables_of ledger.new ≡ expired outcome (tables_of ledger.old) at }
     ensures words { ledger.new ≡ laid (expired outcome (tables_of ledger.old) at) ledger.old }
 {
     match outcome {
-        Outcome::Accepted => ledger::on_tick(ledger, at),
-        Outcome::Refused(_) => rows::known(ledger),
+        Ok(()) => ledger::on_tick(ledger, at),
+        Err(_) => rows::known(ledger),
     }
 }
 
@@ -232,25 +211,21 @@ pub fn tick_turn(
     ensures tables { tables_of ledger.new ≡ expired (tick_of j.core host own.now).outcome (ledger_after j.core.source (tables_of ledger.old) (tick_of j.core host own.now).window) host.at }
     ensures words { ledger.new ≡ laid (expired (tick_of j.core host own.now).outcome (ledger_after j.core.source (tables_of ledger.old) (tick_of j.core host own.now).window) host.at) (laid (ledger_after j.core.source (tables_of ledger.old) (tick_of j.core host own.now).window) ledger.old) }
 {
-    let core = j.core;
-    let d = lent::calls::on_tick(core, connect, sent, ledger, host, own);
-    let outcome = d.outcome;
-    expire(outcome, ledger, host.at);
+    let d = lent::calls::on_tick(j.core, connect, sent, ledger, host, own);
+    expire(d.outcome, ledger, host.at);
     settle(j, d)
 }
 
 pub fn wrote_turn(j: State, at: u64, conn: ConnectionId, stream: StreamId) -> Turn
     ensures { result ≡ settled_in j (wrote_of j.core at conn stream) (wrote_of j.core at conn stream).outcome }
 {
-    let core = j.core;
-    settle(j, core.on_write_completed(at, conn, stream))
+    settle(j, j.core.on_write_completed(at, conn, stream))
 }
 
 pub fn down_turn(j: State, conn: ConnectionId) -> Turn
     ensures { result ≡ settled_in j (down_of j.core conn) (down_of j.core conn).outcome }
 {
-    let core = j.core;
-    settle(j, core.on_connection_closed(conn))
+    settle(j, j.core.on_connection_closed(conn))
 }
 
 pub fn dial_turn(
@@ -264,14 +239,9 @@ pub fn dial_turn(
     ensures tables { tables_of ledger.new ≡ (dial_started (tables_of ledger.old) conn token (Punch id)).ledger }
     ensures words { ledger.new ≡ laid (dial_started (tables_of ledger.old) conn token (Punch id)).ledger ledger.old }
 {
-    let outcome = ledger::dial_started(ledger, conn, token, DialPurpose::Punch(id));
-    match outcome {
-        Outcome::Refused(why) => {
-            return say(j, Said::Refused(why));
-        }
-        Outcome::Accepted => {
-            return say(j, Said::Effects);
-        }
+    match ledger::dial_started(ledger, conn, token, DialPurpose::Punch(id)) {
+        Err(why) => say(j, Said::Refused(why)),
+        Ok(()) => say(j, Said::Effects),
     }
 }
 
@@ -285,13 +255,14 @@ pub fn forget_turn(j: State, ledger: &mut Ledger, conn: ConnectionId) -> Turn
 }
 
 // Only a circuit carries the circuit's claim.
-fn claim_for(c: Core, conn: ConnectionId, circuit: bool) -> Claim
+#[tactic(auto, unfolding(crate::specs::Calls::claim_for))]
+fn claim_for(c: Core, conn: ConnectionId, circuit: bool) -> Option<Claim>
     ensures { result ≡ claim_for c conn circuit }
 {
     if circuit {
         return questions::circuit_claim(c, conn);
     }
-    Claim::None
+    None
 }
 
 pub fn attribute_turn(
@@ -306,18 +277,9 @@ pub fn attribute_turn(
     ensures tables { tables_of ledger.new ≡ (attributed (tables_of ledger.old) conn peer circuit (claim_for j.core conn circuit) at).ledger }
     ensures words { ledger.new ≡ laid (attributed (tables_of ledger.old) conn peer circuit (claim_for j.core conn circuit) at).ledger ledger.old }
 {
-    let core = j.core;
-    let claim = claim_for(core, conn, circuit);
-    let answer = ledger::attribute(ledger, conn, peer, circuit, claim, at);
-    match answer {
-        ledger::Answer::Path(found) => {
-            return say(j, Said::Attributed(FoundPath::At(found)));
-        }
-        ledger::Answer::None => {
-            return say(j, Said::Attributed(FoundPath::None));
-        }
-        ledger::Answer::Refused(why) => {
-            return say(j, Said::Refused(why));
-        }
+    let claim = claim_for(j.core, conn, circuit);
+    match ledger::attribute(ledger, conn, peer, circuit, claim, at) {
+        Ok(found) => say(j, Said::Attributed(found)),
+        Err(why) => say(j, Said::Refused(why)),
     }
 }

@@ -1,10 +1,10 @@
 -- What is printed of a circuit's answer (RULES.md, sections 11.2 and 12.7).
-use Rattle.std.specs.Prelude.{ℕ, min, Bool, true, false, List, [], ◌++◌, take}
+use Rattle.std.specs.Prelude.{ℕ, min, Bool, true, false, List, [], ◌++◌, take, None, Option, Some, is_none}
 use Rattle.prelude.specs.Choice.{pick, both}
 use Rattle.candidates.specs.Selection.{capacity}
 use Rattle.frames.specs.Sent.{frame_capacity}
 use Rattle.vocabulary.specs.declared.Effect.{Effect}
-use Rattle.vocabulary.specs.declared.Effect.TheVariants.{Nothing, Path, Burst, Upgrade, Close, Send, Reset, Open}
+use Rattle.vocabulary.specs.declared.Effect.TheVariants.{Path, Burst, Upgrade, Close, Send, Reset, Open}
 use Rattle.journal_prints.specs.Outputs.{none_text, path_text, open_text, send_text, reset_text, burst_text, close_text, upgrade_text}
 use Rattle.journal_effects.specs.declared.Effects.{Effects}
 
@@ -18,27 +18,17 @@ abbrev pub targets_of : ℕ → List ℕ → List ℕ
 targets_of len aims = take (min len capacity) aims
 
 -- the line of an effect; none for the effect that is missing
-abbrev pub effect_text : ℕ → List ℕ → List ℕ → Effect → List ℕ
-effect_text n message targets Nothing = []
-effect_text n message targets (Path peer relay conn) = path_text n peer relay conn
-effect_text n message targets (Burst times payload) = burst_text n times payload targets
-effect_text n message targets (Upgrade peer old new) = upgrade_text n peer old new
-effect_text n message targets (Close conn) = close_text n conn
-effect_text n message targets (Send conn stream) = send_text n conn stream message
-effect_text n message targets (Reset conn stream) = reset_text n conn stream
-effect_text n message targets (Open conn stream) = open_text n conn stream
+abbrev pub effect_text : ℕ → List ℕ → List ℕ → Option Effect → List ℕ
+effect_text n message targets None = []
+effect_text n message targets (Some (Path peer relay conn)) = path_text n peer relay conn
+effect_text n message targets (Some (Burst times payload)) = burst_text n times payload targets
+effect_text n message targets (Some (Upgrade peer old new)) = upgrade_text n peer old new
+effect_text n message targets (Some (Close conn)) = close_text n conn
+effect_text n message targets (Some (Send conn stream)) = send_text n conn stream message
+effect_text n message targets (Some (Reset conn stream)) = reset_text n conn stream
+effect_text n message targets (Some (Open conn stream)) = open_text n conn stream
 
-abbrev pub is_missing : Effect → Bool
-is_missing Nothing = true
-is_missing (Path peer relay conn) = false
-is_missing (Burst times payload) = false
-is_missing (Upgrade peer old new) = false
-is_missing (Close conn) = false
-is_missing (Send conn stream) = false
-is_missing (Reset conn stream) = false
-is_missing (Open conn stream) = false
-
-abbrev pub line_of : ℕ → Effects → (sent aims : List ℕ) → Effect → List ℕ
+abbrev pub line_of : ℕ → Effects → (sent aims : List ℕ) → Option Effect → List ℕ
 line_of n e sent aims effect = effect_text n (message_of e.message sent) (targets_of e.targets aims) effect
 
 -- a line for each effect, in order
@@ -47,7 +37,7 @@ lines_text n e sent aims =
     line_of n e sent aims e.first ++ line_of n e sent aims e.second ++ line_of n e sent aims e.third ++ line_of n e sent aims e.fourth
 
 unfoldable pub no_effect : Effects → Bool
-no_effect e = both (is_missing e.first) (both (is_missing e.second) (both (is_missing e.third) (is_missing e.fourth)))
+no_effect e = both (is_none e.first) (both (is_none e.second) (both (is_none e.third) (is_none e.fourth)))
 
 -- the line `none` where there is no effect
 unfoldable pub effects_text : ℕ → Effects → (sent aims : List ℕ) → List ℕ

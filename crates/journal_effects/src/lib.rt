@@ -1,13 +1,13 @@
 // What the journal prints of a circuit's answer: an output line for each effect, in order, or the line `none`.
 #![tactic(auto)]
 
-ghost use Rattle.std.specs.Prelude.{◌≡◌, ◌*◌, ◌≤◌, min, length, take};
+ghost use Rattle.std.specs.Prelude.{◌≡◌, ◌*◌, ◌≤◌, min, length, take, Some};
 ghost use Rattle.text.specs.Printed.{printed, behind};
 ghost use Rattle.journal_prints.specs.Outputs.{send_text, burst_text};
 ghost use Rattle.frames.specs.Sent.{frame_capacity};
 ghost use Rattle.candidates.specs.Selection.{capacity};
 ghost use Rattle.journal_prints.specs.Room.{room};
-ghost use Rattle.journal_effects.specs.Effects.{message_of, targets_of, effect_text, is_missing, no_effect, lines_text, effects_text};
+ghost use Rattle.journal_effects.specs.Effects.{message_of, targets_of, effect_text, no_effect, lines_text, effects_text};
 
 use frames::FrameBytes;
 use ids::{ConnectionId, StreamId};
@@ -18,10 +18,10 @@ use vocabulary::Effect;
 // took an established connection: an answer that no line is printed of.
 #[derive(Clone, Copy)]
 pub struct Effects {
-    pub first: Effect,
-    pub second: Effect,
-    pub third: Effect,
-    pub fourth: Effect,
+    pub first: Option<Effect>,
+    pub second: Option<Effect>,
+    pub third: Option<Effect>,
+    pub fourth: Option<Effect>,
     pub message: usize,
     pub targets: usize,
     pub took: bool,
@@ -77,12 +77,11 @@ fn put_effect(
     out: &mut [u8],
     at: usize,
 ) -> usize
-    ensures bytes { out.new ≡ printed out.old at (effect_text n (message_of message sent.now) (targets_of targets aims.now) effect) }
-    ensures place { result ≡ behind out.old at (effect_text n (message_of message sent.now) (targets_of targets aims.now) effect) }
-    ensures short { length (effect_text n (message_of message sent.now) (targets_of targets aims.now) effect) ≤ room }
+    ensures bytes { out.new ≡ printed out.old at (effect_text n (message_of message sent.now) (targets_of targets aims.now) (Some effect)) }
+    ensures place { result ≡ behind out.old at (effect_text n (message_of message sent.now) (targets_of targets aims.now) (Some effect)) }
+    ensures short { length (effect_text n (message_of message sent.now) (targets_of targets aims.now) (Some effect)) ≤ room }
 {
     match effect {
-        Effect::Nothing => at,
         Effect::Path { peer, relay, conn } => {
             text::in_range(peer.0, relay.0, conn.0);
             journal_prints::put_path(n, peer, relay, conn, out, at)
@@ -114,38 +113,35 @@ fn put_effect(
     }
 }
 
-fn is_missing(effect: Effect) -> bool
-    ensures { result ≡ is_missing effect }
+// The line of an effect; none of one that is missing.
+fn put_line(
+    n: u64,
+    effect: Option<Effect>,
+    sent: &FrameBytes,
+    message: usize,
+    aims: &TargetBytes,
+    targets: usize,
+    out: &mut [u8],
+    at: usize,
+) -> usize
+    ensures bytes { out.new ≡ printed out.old at (effect_text n (message_of message sent.now) (targets_of targets aims.now) effect) }
+    ensures place { result ≡ behind out.old at (effect_text n (message_of message sent.now) (targets_of targets aims.now) effect) }
+    ensures short { length (effect_text n (message_of message sent.now) (targets_of targets aims.now) effect) ≤ room }
 {
     match effect {
-        Effect::Nothing => true,
-        Effect::Path { .. } => false,
-        Effect::Burst { .. } => false,
-        Effect::Upgrade { .. } => false,
-        Effect::Close { .. } => false,
-        Effect::Send { .. } => false,
-        Effect::Reset { .. } => false,
-        Effect::Open { .. } => false,
+        Some(effect) => put_effect(n, effect, sent, message, aims, targets, out, at),
+        None => at,
     }
 }
 
+#[tactic(auto, unfolding(crate::specs::Effects::no_effect))]
 fn is_empty(effects: Effects) -> bool
     ensures { result ≡ no_effect effects }
 {
-    let first = effects.first;
-    let second = effects.second;
-    let third = effects.third;
-    let fourth = effects.fourth;
-    if is_missing(first) {
-        if is_missing(second) {
-            if is_missing(third) {
-                return is_missing(fourth);
-            }
-            return false;
-        }
-        return false;
-    }
-    false
+    effects.first.is_none()
+        && effects.second.is_none()
+        && effects.third.is_none()
+        && effects.fourth.is_none()
 }
 
 fn put_lines(
@@ -160,16 +156,12 @@ fn put_lines(
     ensures place { result ≡ behind out.old at (lines_text n effects sent.now aims.now) }
     ensures short { length (lines_text n effects sent.now aims.now) ≤ 4 * room }
 {
-    let first = effects.first;
-    let second = effects.second;
-    let third = effects.third;
-    let fourth = effects.fourth;
     let message = effects.message;
     let targets = effects.targets;
-    let p = put_effect(n, first, sent, message, aims, targets, out, at);
-    let p = put_effect(n, second, sent, message, aims, targets, out, p);
-    let p = put_effect(n, third, sent, message, aims, targets, out, p);
-    put_effect(n, fourth, sent, message, aims, targets, out, p)
+    let p = put_line(n, effects.first, sent, message, aims, targets, out, at);
+    let p = put_line(n, effects.second, sent, message, aims, targets, out, p);
+    let p = put_line(n, effects.third, sent, message, aims, targets, out, p);
+    put_line(n, effects.fourth, sent, message, aims, targets, out, p)
 }
 
 // `sent` has the message's bytes, `aims` those of the targets.

@@ -8,6 +8,7 @@ use lib.Dec.{eqb}
 use lib.ListN.{get_or, drop}
 use lib.Seq.{get_or-drop}
 use borrow.Author.Tests.{eq-eqb}
+use Rattle.std.specs.Prelude.{None, Option, Some}
 use Rattle.prelude.specs.Choice.{pick, either}
 use Rattle.prelude.specs.Numbers.{max_u64}
 use Rattle.text.specs.Words.{ascii, begins, is_word, length_before}
@@ -17,10 +18,6 @@ use Rattle.ids.specs.declared.ConnectionId.{ConnectionId}
 use Rattle.ids.specs.declared.NatToken.{NatToken}
 use Rattle.ids.specs.declared.PeerId.{PeerId}
 use Rattle.ids.specs.declared.StreamId.{StreamId}
-use Rattle.vocabulary.specs.declared.Live.{Live}
-use Rattle.vocabulary.specs.declared.Live.TheVariants as live
-use Rattle.vocabulary.specs.declared.Offer.{Offer}
-use Rattle.vocabulary.specs.declared.Offer.TheVariants as offer
 use Rattle.vocabulary.specs.declared.Settings.{Settings}
 use Rattle.vocabulary.specs.declared.StreamInput.{StreamInput}
 use Rattle.vocabulary.specs.declared.StreamInput.TheVariants as input
@@ -32,24 +29,23 @@ use Rattle.forms.proofs.Back.{got, got_none, words_read}
 use Rattle.journal_lines.specs.Forms.{settings_form, start_form, up_form, input_form, tick_form, wrote_form, down_form, dial_form, forget_form, attribute_form}
 use Rattle.journal_lines.specs.Lines.{word, is_second, kind_of, may_have_bytes, settings_in, settings_of, start_of, up_of, input_of, tick_of, wrote_of, down_of, dial_of, forget_of, attribute_of}
 use Rattle.journal_lines.specs.Texts.{live_value, offer_value, chosen, kind_value, LiveFits, OfferFits, MayHave, settings_text, start_text, up_text, input_text, tick_text, wrote_text, down_text, dial_text, forget_text, attribute_text, SettingsAreRead, StartIsRead, UpIsRead, InputIsRead, TickIsRead, WroteIsRead, DownIsRead, DialIsRead, ForgetIsRead, AttributeIsRead}
-use Rattle.journal_lines.specs.declared.First.TheVariants as first
 use Rattle.journal_lines.specs.declared.Line.TheVariants.{Start, Up, Input, Tick, Wrote, Down, Dial, Forget, Attribute}
 use Rattle.journal_lines.proofs.Made.{said_by_lem}
 
 -- ---- a value is what its words mean
 
-live_is : (t : Bool) (v : ℕ) (l : Live) → pick t absent (some v) ≡ live_value l → pick t live.Nothing (live.On (record { 0 = v })) ≡ l
-live_is true v (live.On conn) e = let z : ◌≡◌ {A = ℕ} 0 1 = cc in absurd (omega arith)
-live_is true v live.Nothing e = refl
-live_is false v (live.On conn) e = let z : v ≡ conn.0 = cc in rw z
-live_is false v live.Nothing e = let z : ◌≡◌ {A = ℕ} 0 1 = cc in absurd (omega arith)
+live_is : (t : Bool) (v : ℕ) (l : Option ConnectionId) → pick t absent (some v) ≡ live_value l → pick t None (Some (record { 0 = v })) ≡ l
+live_is true v (Some conn) e = let z : ◌≡◌ {A = ℕ} 0 1 = cc in absurd (omega arith)
+live_is true v None e = refl
+live_is false v (Some conn) e = let z : v ≡ conn.0 = cc in rw z
+live_is false v None e = let z : ◌≡◌ {A = ℕ} 0 1 = cc in absurd (omega arith)
 
-offer_is : (t : Bool) (a b : ℕ) (o : Offer) → pick t unpaired (pair a b) ≡ offer_value o
-    → pick t offer.Nothing (offer.Stream (record { 0 = a }) (record { 0 = b })) ≡ o
-offer_is true a b (offer.Stream conn stream) e = let z : ◌≡◌ {A = ℕ} 0 1 = cc in absurd (omega arith)
-offer_is true a b offer.Nothing e = refl
-offer_is false a b (offer.Stream conn stream) e = let y : a ≡ conn.0 = cc in let z : b ≡ stream.0 = cc in rw (y, z)
-offer_is false a b offer.Nothing e = let z : ◌≡◌ {A = ℕ} 0 1 = cc in absurd (omega arith)
+offer_is : (t : Bool) (a b : ℕ) (o : Option (ConnectionId × StreamId)) → pick t unpaired (pair a b) ≡ offer_value o
+    → pick t None (Some (record { 0 = a }, record { 0 = b })) ≡ o
+offer_is true a b (Some (conn, stream)) e = let z : ◌≡◌ {A = ℕ} 0 1 = cc in absurd (omega arith)
+offer_is true a b None e = refl
+offer_is false a b (Some (conn, stream)) e = let y : a ≡ conn.0 = cc in let z : b ≡ stream.0 = cc in rw (y, z)
+offer_is false a b None e = let z : ◌≡◌ {A = ℕ} 0 1 = cc in absurd (omega arith)
 
 chosen_is : (k : ℕ) (p : Bool) → chosenWord k ≡ chosen p → is_second k ≡ p
 chosen_is k true e = let z : k ≡ 1 = cc in rw z
@@ -71,15 +67,15 @@ may_have k input.Closed brought line start end e m g = let z : k ≡ 3 = cc in r
 
 -- ---- each value fits its mark
 
-live_fits : (ch : List ℕ) (l : Live) → LiveFits l → (kind_of_value (live_value l) ≡ mark.Maybe) × InRange ch (live_value l)
+live_fits : (ch : List ℕ) (l : Option ConnectionId) → LiveFits l → (kind_of_value (live_value l) ≡ mark.Maybe) × InRange ch (live_value l)
 unfolding kind_of_value InRange
-live_fits ch (live.On conn) h = (refl, h)
-live_fits ch live.Nothing h = (refl, tt)
+live_fits ch (Some conn) h = (refl, h)
+live_fits ch None h = (refl, tt)
 
-offer_fits : (ch : List ℕ) (o : Offer) → OfferFits o → (kind_of_value (offer_value o) ≡ mark.Pair) × InRange ch (offer_value o)
+offer_fits : (ch : List ℕ) (o : Option (ConnectionId × StreamId)) → OfferFits o → (kind_of_value (offer_value o) ≡ mark.Pair) × InRange ch (offer_value o)
 unfolding kind_of_value InRange
-offer_fits ch (offer.Stream conn stream) h = (refl, h)
-offer_fits ch offer.Nothing h = (refl, tt)
+offer_fits ch (Some (conn, stream)) h = (refl, h)
+offer_fits ch None h = (refl, tt)
 
 bit_fits : (p : Bool) → (kind_of_value (chosen p) ≡ mark.Choice) × InRange (ascii "0/1") (chosen p)
 unfolding kind_of_value InRange split on_first which_word is_word begins length_before
@@ -110,7 +106,7 @@ start_fits at source relay circuit h0 h1 h2 h3 = ((refl, h0), ((refl, h1), ((ref
 
 module _ (take-bytes : ℕ → ℕ → List ℕ) (ws : List ℕ) (at : ℕ) (source : PeerId) (relay : PeerId) (circuit : ConnectionId) where
   abbrev StartMade : Type 0
-  StartMade = (start_of ws ≡ Start at source relay circuit)
+  StartMade = (start_of ws ≡ Some (Start at source relay circuit))
 
   start_means : number (word ws 0) ∷ number (word ws 1) ∷ number (word ws 2) ∷ number (word ws 3) ∷ [] ≡ number at ∷ number source.0 ∷ number relay.0 ∷ number circuit.0 ∷ [] → StartMade
   start_means e =
@@ -136,13 +132,13 @@ up_form_lem : is_form up_form ≡ true
 unfolding is_form is_form_from mark_of
 up_form_lem = refl
 
-up_fits : (at : ℕ) (peer : PeerId) (conn : ConnectionId) (circuit : Bool) (l : Live) (o : Offer) (pending : Bool) (own : List ℕ) → at ≤ max_u64 → peer.0 ≤ max_u64 → conn.0 ≤ max_u64 → LiveFits l → OfferFits o → Bytes own → Fits up_form (number at ∷ number peer.0 ∷ number conn.0 ∷ chosen circuit ∷ live_value l ∷ offer_value o ∷ chosen pending ∷ bytes own ∷ [])
+up_fits : (at : ℕ) (peer : PeerId) (conn : ConnectionId) (circuit : Bool) (l : Option ConnectionId) (o : Option (ConnectionId × StreamId)) (pending : Bool) (own : List ℕ) → at ≤ max_u64 → peer.0 ≤ max_u64 → conn.0 ≤ max_u64 → LiveFits l → OfferFits o → Bytes own → Fits up_form (number at ∷ number peer.0 ∷ number conn.0 ∷ chosen circuit ∷ live_value l ∷ offer_value o ∷ chosen pending ∷ bytes own ∷ [])
 unfolding Fits FitsFrom mark_of InRange kind_of_value length_before
 up_fits at peer conn circuit l o pending own h0 h1 h2 h4 h5 h7 = ((refl, h0), ((refl, h1), ((refl, h2), (via_fits circuit, (live_fits _ l h4, (offer_fits _ o h5, (bit_fits pending, ((refl, h7), tt))))))))
 
-module _ (take-bytes : ℕ → ℕ → List ℕ) (ws : List ℕ) (at : ℕ) (peer : PeerId) (conn : ConnectionId) (circuit : Bool) (l : Live) (o : Offer) (pending : Bool) (own : List ℕ) where
+module _ (take-bytes : ℕ → ℕ → List ℕ) (ws : List ℕ) (at : ℕ) (peer : PeerId) (conn : ConnectionId) (circuit : Bool) (l : Option ConnectionId) (o : Option (ConnectionId × StreamId)) (pending : Bool) (own : List ℕ) where
   abbrev UpMade : Type 0
-  UpMade = (up_of ws ≡ Up at peer conn circuit l o pending (record { start = word ws 10; end = word ws 11 })) × (take-bytes (word ws 10) (word ws 11) ≡ own)
+  UpMade = (up_of ws ≡ Some (Up at peer conn circuit l o pending (record { start = word ws 10; end = word ws 11 }))) × (take-bytes (word ws 10) (word ws 11) ≡ own)
 
   up_means : number (word ws 0) ∷ number (word ws 1) ∷ number (word ws 2) ∷ chosenWord (word ws 3) ∷ pick (eqb (word ws 4) 0) absent (some (word ws 5)) ∷ pick (eqb (word ws 6) 0) unpaired (pair (word ws 7) (word ws 8)) ∷ chosenWord (word ws 9) ∷ bytes (take-bytes (word ws 10) (word ws 11)) ∷ [] ≡ number at ∷ number peer.0 ∷ number conn.0 ∷ chosen circuit ∷ live_value l ∷ offer_value o ∷ chosen pending ∷ bytes own ∷ [] → UpMade
   up_means e =
@@ -172,13 +168,13 @@ input_form_lem : is_form input_form ≡ true
 unfolding is_form is_form_from mark_of
 input_form_lem = refl
 
-input_fits : (at : ℕ) (stream : StreamId) (k : StreamInput) (brought : List ℕ) (l : Live) (o : Offer) (pending : Bool) (own : List ℕ) → at ≤ max_u64 → stream.0 ≤ max_u64 → Bytes brought → LiveFits l → OfferFits o → Bytes own → Fits input_form (number at ∷ number stream.0 ∷ kind_value k ∷ bytes brought ∷ live_value l ∷ offer_value o ∷ chosen pending ∷ bytes own ∷ [])
+input_fits : (at : ℕ) (stream : StreamId) (k : StreamInput) (brought : List ℕ) (l : Option ConnectionId) (o : Option (ConnectionId × StreamId)) (pending : Bool) (own : List ℕ) → at ≤ max_u64 → stream.0 ≤ max_u64 → Bytes brought → LiveFits l → OfferFits o → Bytes own → Fits input_form (number at ∷ number stream.0 ∷ kind_value k ∷ bytes brought ∷ live_value l ∷ offer_value o ∷ chosen pending ∷ bytes own ∷ [])
 unfolding Fits FitsFrom mark_of InRange kind_of_value length_before
 input_fits at stream k brought l o pending own h0 h1 h3 h4 h5 h7 = ((refl, h0), ((refl, h1), (kind_fits k, ((refl, h3), (live_fits _ l h4, (offer_fits _ o h5, (bit_fits pending, ((refl, h7), tt))))))))
 
-module _ (take-bytes : ℕ → ℕ → List ℕ) (ws : List ℕ) (at : ℕ) (stream : StreamId) (k : StreamInput) (brought : List ℕ) (l : Live) (o : Offer) (pending : Bool) (own : List ℕ) where
+module _ (take-bytes : ℕ → ℕ → List ℕ) (ws : List ℕ) (at : ℕ) (stream : StreamId) (k : StreamInput) (brought : List ℕ) (l : Option ConnectionId) (o : Option (ConnectionId × StreamId)) (pending : Bool) (own : List ℕ) where
   abbrev InputMade : Type 0
-  InputMade = (may_have_bytes ws ≡ true → input_of ws ≡ Input at stream k (record { start = word ws 3; end = word ws 4 }) l o pending (record { start = word ws 11; end = word ws 12 })) × (take-bytes (word ws 3) (word ws 4) ≡ brought) × (take-bytes (word ws 11) (word ws 12) ≡ own) × (chosenWord (word ws 2) ≡ kind_value k)
+  InputMade = (may_have_bytes ws ≡ true → input_of ws ≡ Some (Input at stream k (record { start = word ws 3; end = word ws 4 }) l o pending (record { start = word ws 11; end = word ws 12 }))) × (take-bytes (word ws 3) (word ws 4) ≡ brought) × (take-bytes (word ws 11) (word ws 12) ≡ own) × (chosenWord (word ws 2) ≡ kind_value k)
 
   input_means : number (word ws 0) ∷ number (word ws 1) ∷ chosenWord (word ws 2) ∷ bytes (take-bytes (word ws 3) (word ws 4)) ∷ pick (eqb (word ws 5) 0) absent (some (word ws 6)) ∷ pick (eqb (word ws 7) 0) unpaired (pair (word ws 8) (word ws 9)) ∷ chosenWord (word ws 10) ∷ bytes (take-bytes (word ws 11) (word ws 12)) ∷ [] ≡ number at ∷ number stream.0 ∷ kind_value k ∷ bytes brought ∷ live_value l ∷ offer_value o ∷ chosen pending ∷ bytes own ∷ [] → InputMade
   input_means e =
@@ -210,13 +206,13 @@ tick_form_lem : is_form tick_form ≡ true
 unfolding is_form is_form_from mark_of
 tick_form_lem = refl
 
-tick_fits : (at : ℕ) (l : Live) (o : Offer) (own : List ℕ) → at ≤ max_u64 → LiveFits l → OfferFits o → Bytes own → Fits tick_form (number at ∷ live_value l ∷ offer_value o ∷ bytes own ∷ [])
+tick_fits : (at : ℕ) (l : Option ConnectionId) (o : Option (ConnectionId × StreamId)) (own : List ℕ) → at ≤ max_u64 → LiveFits l → OfferFits o → Bytes own → Fits tick_form (number at ∷ live_value l ∷ offer_value o ∷ bytes own ∷ [])
 unfolding Fits FitsFrom mark_of InRange kind_of_value length_before
 tick_fits at l o own h0 h1 h2 h3 = ((refl, h0), (live_fits _ l h1, (offer_fits _ o h2, ((refl, h3), tt))))
 
-module _ (take-bytes : ℕ → ℕ → List ℕ) (ws : List ℕ) (at : ℕ) (l : Live) (o : Offer) (own : List ℕ) where
+module _ (take-bytes : ℕ → ℕ → List ℕ) (ws : List ℕ) (at : ℕ) (l : Option ConnectionId) (o : Option (ConnectionId × StreamId)) (own : List ℕ) where
   abbrev TickMade : Type 0
-  TickMade = (tick_of ws ≡ Tick at l o (record { start = word ws 6; end = word ws 7 })) × (take-bytes (word ws 6) (word ws 7) ≡ own)
+  TickMade = (tick_of ws ≡ Some (Tick at l o (record { start = word ws 6; end = word ws 7 }))) × (take-bytes (word ws 6) (word ws 7) ≡ own)
 
   tick_means : number (word ws 0) ∷ pick (eqb (word ws 1) 0) absent (some (word ws 2)) ∷ pick (eqb (word ws 3) 0) unpaired (pair (word ws 4) (word ws 5)) ∷ bytes (take-bytes (word ws 6) (word ws 7)) ∷ [] ≡ number at ∷ live_value l ∷ offer_value o ∷ bytes own ∷ [] → TickMade
   tick_means e =
@@ -248,7 +244,7 @@ wrote_fits at conn stream h0 h1 h2 = ((refl, h0), ((refl, h1), ((refl, h2), tt))
 
 module _ (take-bytes : ℕ → ℕ → List ℕ) (ws : List ℕ) (at : ℕ) (conn : ConnectionId) (stream : StreamId) where
   abbrev WroteMade : Type 0
-  WroteMade = (wrote_of ws ≡ Wrote at conn stream)
+  WroteMade = (wrote_of ws ≡ Some (Wrote at conn stream))
 
   wrote_means : number (word ws 0) ∷ number (word ws 1) ∷ number (word ws 2) ∷ [] ≡ number at ∷ number conn.0 ∷ number stream.0 ∷ [] → WroteMade
   wrote_means e =
@@ -279,7 +275,7 @@ down_fits at peer conn h0 h1 h2 = ((refl, h0), ((refl, h1), ((refl, h2), tt)))
 
 module _ (take-bytes : ℕ → ℕ → List ℕ) (ws : List ℕ) (at : ℕ) (peer : PeerId) (conn : ConnectionId) where
   abbrev DownMade : Type 0
-  DownMade = (down_of ws ≡ Down at peer conn)
+  DownMade = (down_of ws ≡ Some (Down at peer conn))
 
   down_means : number (word ws 0) ∷ number (word ws 1) ∷ number (word ws 2) ∷ [] ≡ number at ∷ number peer.0 ∷ number conn.0 ∷ [] → DownMade
   down_means e =
@@ -310,7 +306,7 @@ dial_fits at conn token id h0 h1 h2 h3 = ((refl, h0), ((refl, h1), ((refl, h2), 
 
 module _ (take-bytes : ℕ → ℕ → List ℕ) (ws : List ℕ) (at : ℕ) (conn : ConnectionId) (token : NatToken) (id : ConnectId) where
   abbrev DialMade : Type 0
-  DialMade = (dial_of ws ≡ Dial at conn token id)
+  DialMade = (dial_of ws ≡ Some (Dial at conn token id))
 
   dial_means : number (word ws 0) ∷ number (word ws 1) ∷ number (word ws 2) ∷ number (word ws 3) ∷ [] ≡ number at ∷ number conn.0 ∷ number token.0 ∷ number id.0 ∷ [] → DialMade
   dial_means e =
@@ -342,7 +338,7 @@ forget_fits at conn h0 h1 = ((refl, h0), ((refl, h1), tt))
 
 module _ (take-bytes : ℕ → ℕ → List ℕ) (ws : List ℕ) (at : ℕ) (conn : ConnectionId) where
   abbrev ForgetMade : Type 0
-  ForgetMade = (forget_of ws ≡ Forget at conn)
+  ForgetMade = (forget_of ws ≡ Some (Forget at conn))
 
   forget_means : number (word ws 0) ∷ number (word ws 1) ∷ [] ≡ number at ∷ number conn.0 ∷ [] → ForgetMade
   forget_means e =
@@ -372,7 +368,7 @@ attribute_fits at peer conn circuit h0 h1 h2 = ((refl, h0), ((refl, h1), ((refl,
 
 module _ (take-bytes : ℕ → ℕ → List ℕ) (ws : List ℕ) (at : ℕ) (peer : PeerId) (conn : ConnectionId) (circuit : Bool) where
   abbrev AttributeMade : Type 0
-  AttributeMade = (attribute_of ws ≡ Attribute at peer conn circuit)
+  AttributeMade = (attribute_of ws ≡ Some (Attribute at peer conn circuit))
 
   attribute_means : number (word ws 0) ∷ number (word ws 1) ∷ number (word ws 2) ∷ chosenWord (word ws 3) ∷ [] ≡ number at ∷ number peer.0 ∷ number conn.0 ∷ chosen circuit ∷ [] → AttributeMade
   attribute_means e =
@@ -407,7 +403,7 @@ unfolding Fits FitsFrom mark_of InRange kind_of_value length_before
 settings_fit s h0 h1 h2 h3 h4 h5 = ((refl, h0), ((refl, h1), ((refl, h2), ((refl, h3), ((refl, h4), ((refl, h5), (bit_fits s.private, (bit_fits s.upgrades, tt))))))))
 
 module _ (take-bytes : ℕ → ℕ → List ℕ) (ws : List ℕ) (s : Settings) where
-  settings_mean : number (word ws 0) ∷ number (word ws 1) ∷ number (word ws 2) ∷ number (word ws 3) ∷ number (word ws 4) ∷ number (word ws 5) ∷ chosenWord (word ws 6) ∷ chosenWord (word ws 7) ∷ [] ≡ number s.handshake ∷ number s.upgrade ∷ number s.exchange ∷ number s.punch ∷ number s.interval ∷ number s.payload ∷ chosen s.private ∷ chosen s.upgrades ∷ [] → settings_in ws ≡ first.Settings s
+  settings_mean : number (word ws 0) ∷ number (word ws 1) ∷ number (word ws 2) ∷ number (word ws 3) ∷ number (word ws 4) ∷ number (word ws 5) ∷ chosenWord (word ws 6) ∷ chosenWord (word ws 7) ∷ [] ≡ number s.handshake ∷ number s.upgrade ∷ number s.exchange ∷ number s.punch ∷ number s.interval ∷ number s.payload ∷ chosen s.private ∷ chosen s.upgrades ∷ [] → settings_in ws ≡ Some s
   settings_mean e =
       let x0 : word ws 0 ≡ s.handshake = cc in
       let x1 : word ws 1 ≡ s.upgrade = cc in
@@ -419,7 +415,7 @@ module _ (take-bytes : ℕ → ℕ → List ℕ) (ws : List ℕ) (s : Settings) 
       let x7 = chosen_is (word ws 7) s.upgrades cc in
       rw (x0, x1, x2, x3, x4, x5, x6, x7)
 
-  settings_made : values_from take-bytes false settings_form ws ≡ number s.handshake ∷ number s.upgrade ∷ number s.exchange ∷ number s.punch ∷ number s.interval ∷ number s.payload ∷ chosen s.private ∷ chosen s.upgrades ∷ [] → settings_in ws ≡ first.Settings s
+  settings_made : values_from take-bytes false settings_form ws ≡ number s.handshake ∷ number s.upgrade ∷ number s.exchange ∷ number s.punch ∷ number s.interval ∷ number s.payload ∷ chosen s.private ∷ chosen s.upgrades ∷ [] → settings_in ws ≡ Some s
   unfolding values_from value_in mark_of
   settings_made e = settings_mean (simp get_or-drop at e)
 

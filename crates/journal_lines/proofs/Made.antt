@@ -6,8 +6,7 @@ use Prim.Native.Nat.{ℕ, ◌≤◌, ◌<◌}
 use native.Mathlib.Omega.{arith}
 use lib.ListN.{length, take, get_or}
 use lib.Seq.{get_or-take}
-use Rattle.vocabulary.specs.declared.Live.{Live}
-use Rattle.vocabulary.specs.declared.Offer.{Offer}
+use Rattle.std.specs.Prelude.{None, Option, Some}
 use Rattle.vocabulary.specs.declared.StreamInput.{StreamInput}
 use Rattle.forms.specs.Forms.{kind_of as mark_of, Good, read_form, is_read, Stored}
 use Rattle.forms.specs.Texts.{count_from}
@@ -17,19 +16,20 @@ use Rattle.forms.proofs.Tables.{share_no_line, said_at}
 use Rattle.journal_lines.specs.Forms.{forms, settings_form, start_form, up_form, input_form, tick_form, wrote_form, down_form, dial_form, forget_form, attribute_form}
 use Rattle.journal_lines.specs.Lines.{word, is_second, live_of, offer_of, kind_of, settings_in, settings_of, start_of, up_of, may_have_bytes, input_of, tick_of, wrote_of, down_of, dial_of, forget_of, attribute_of, calls, line_of}
 use Rattle.journal_lines.specs.declared.Digits.{Digits}
-use Rattle.journal_lines.specs.declared.First.TheVariants as first
 use Rattle.journal_lines.specs.declared.Line.{Line}
-use Rattle.journal_lines.specs.declared.Line.TheVariants.{Input, Unknown}
+use Rattle.journal_lines.specs.declared.Line.TheVariants.{Input}
+use Rattle.ids.specs.declared.ConnectionId.{ConnectionId}
+use Rattle.ids.specs.declared.StreamId.{StreamId}
 
 -- ---- an input that may have its bytes
 
-pub input_made : (ws : List ℕ) {b d : Digits} {live : Live} {offer : Offer} {pending : Bool} {named : StreamInput} {t : Bool} → t ≡ may_have_bytes ws
+pub input_made : (ws : List ℕ) {b d : Digits} {live : Option ConnectionId} {offer : Option (ConnectionId × StreamId)} {pending : Bool} {named : StreamInput} {t : Bool} → t ≡ may_have_bytes ws
     → named ≡ kind_of (word ws 2) → b ≡ record { start = word ws 3; end = word ws 4 } → live ≡ live_of (word ws 5) (word ws 6) → offer ≡ offer_of (word ws 7) (word ws 8) (word ws 9)
     → pending ≡ is_second (word ws 10) → d ≡ record { start = word ws 11; end = word ws 12 } → t ≡ true
-    → Input (word ws 0) (record { 0 = word ws 1 }) named b live offer pending d ≡ input_of ws
+    → Some (Input (word ws 0) (record { 0 = word ws 1 }) named b live offer pending d) ≡ input_of ws
 input_made ws pt pn pb pl po pp pd h = rw (← pt, h, pn, pb, pl, po, pp, pd)
 
-pub input_unmade : (ws : List ℕ) {t : Bool} → t ≡ may_have_bytes ws → t ≡ false → Unknown ≡ input_of ws
+pub input_unmade : (ws : List ℕ) {t : Bool} → t ≡ may_have_bytes ws → t ≡ false → None ≡ input_of ws
 input_unmade ws pt h = rw (← pt, h)
 
 -- ---- a call looks at its own words alone
@@ -121,18 +121,18 @@ calls_differ = refl
 
 -- ---- the form that the line has
 
-abbrev pub none : Entry Line
-none = record { form = []; means = λ ws. Unknown }
+abbrev pub none : Entry (Option Line)
+none = record { form = []; means = λ ws. None }
 
 abbrev pub form_at : ℕ → List ℕ
 form_at i = (get_or calls i none).form
 
-abbrev pub means_at : ℕ → List ℕ → Line
+abbrev pub means_at : ℕ → List ℕ → Option Line
 means_at i = (get_or calls i none).means
 
 pub said_by_lem : (line : List ℕ) (i : ℕ) (ws : List ℕ) → i < 9 → read_form (form_at i) line ≡ Good ws → line_of line ≡ means_at i ws
 unfolding line_of
-said_by_lem line i ws h e = said_at Unknown calls none i line ws calls_differ (omega arith) e
+said_by_lem line i ws h e = said_at None calls none i line ws calls_differ (omega arith) e
 
 module _ (line : List ℕ) where
   read_by : (i n : ℕ) → i < 9 → n ≤ 16 → ((s : List ℕ) → means_at i (take n s) ≡ means_at i s) → count_from false (form_at i) ≡ n
@@ -168,7 +168,7 @@ module _ (line : List ℕ) where
   pub attribute_read : (before after : List ℕ) → true ≡ is_read (read_form attribute_form line) → Stored attribute_form line before after → length before ≡ 16 → attribute_of after ≡ line_of line
   attribute_read = read_by 8 4 (omega arith) (omega arith) attribute_looks attribute_count
 
-  pub none_read : false ≡ is_read (read_form start_form line) → false ≡ is_read (read_form up_form line) → false ≡ is_read (read_form input_form line) → false ≡ is_read (read_form tick_form line) → false ≡ is_read (read_form wrote_form line) → false ≡ is_read (read_form down_form line) → false ≡ is_read (read_form dial_form line) → false ≡ is_read (read_form forget_form line) → false ≡ is_read (read_form attribute_form line) → Unknown ≡ line_of line
+  pub none_read : false ≡ is_read (read_form start_form line) → false ≡ is_read (read_form up_form line) → false ≡ is_read (read_form input_form line) → false ≡ is_read (read_form tick_form line) → false ≡ is_read (read_form wrote_form line) → false ≡ is_read (read_form down_form line) → false ≡ is_read (read_form dial_form line) → false ≡ is_read (read_form forget_form line) → false ≡ is_read (read_form attribute_form line) → None ≡ line_of line
   unfolding line_of said
   none_read h0 h1 h2 h3 h4 h5 h6 h7 h8 = rw (is_bad (read_form start_form line) h0, is_bad (read_form up_form line) h1, is_bad (read_form input_form line) h2, is_bad (read_form tick_form line) h3, is_bad (read_form wrote_form line) h4, is_bad (read_form down_form line) h5, is_bad (read_form dial_form line) h6, is_bad (read_form forget_form line) h7, is_bad (read_form attribute_form line) h8)
 
@@ -176,6 +176,6 @@ module _ (line : List ℕ) where
   unfolding settings_of
   settings_read before after e s l = sym (settings_looks after) ∙ rw (is_good_lem settings_form line before after 8 e s settings_count (omega arith))
 
-  pub settings_unread : false ≡ is_read (read_form settings_form line) → first.Unknown ≡ settings_of line
+  pub settings_unread : false ≡ is_read (read_form settings_form line) → None ≡ settings_of line
   unfolding settings_of
   settings_unread h = rw (is_bad (read_form settings_form line) h)

@@ -1,21 +1,18 @@
 -- What a journal's lines say (RULES.md, sections 12.4 and 12.5), from the words that their values are handed out as (`words_of` of forms):
 -- a number v is v; a number or none is 1 v, or 0 0; a pair or none is 1 a b, or 0 0 0; a word its place in the choice; bytes the start and
 -- the end of their digits in the line.
-use Rattle.std.specs.Prelude.{ℕ, List, [], ◌∷◌, Bool, get_or, eqb}
+use Rattle.std.specs.Prelude.{ℕ, List, [], ◌∷◌, Bool, get_or, eqb, None, Option, Some}
 use Rattle.prelude.specs.Choice.{pick, either}
 use Rattle.forms.specs.Forms.{read_form}
 use Rattle.forms.specs.Tables.{Entry, tried, said}
-use Rattle.vocabulary.specs.declared.Live.{Live}
-use Rattle.vocabulary.specs.declared.Live.TheVariants as live
-use Rattle.vocabulary.specs.declared.Offer.{Offer}
-use Rattle.vocabulary.specs.declared.Offer.TheVariants as offer
 use Rattle.vocabulary.specs.declared.StreamInput.{StreamInput}
 use Rattle.vocabulary.specs.declared.StreamInput.TheVariants as input
 use Rattle.journal_lines.specs.Forms.{settings_form, start_form, up_form, input_form, tick_form, wrote_form, down_form, dial_form, forget_form, attribute_form}
-use Rattle.journal_lines.specs.declared.First.{First}
-use Rattle.journal_lines.specs.declared.First.TheVariants as first
 use Rattle.journal_lines.specs.declared.Line.{Line}
-use Rattle.journal_lines.specs.declared.Line.TheVariants.{Start, Up, Input, Tick, Wrote, Down, Dial, Forget, Attribute, Unknown}
+use Rattle.journal_lines.specs.declared.Line.TheVariants.{Start, Up, Input, Tick, Wrote, Down, Dial, Forget, Attribute}
+use Rattle.ids.specs.declared.ConnectionId.{ConnectionId}
+use Rattle.ids.specs.declared.StreamId.{StreamId}
+use Rattle.vocabulary.specs.declared.Settings.{Settings}
 
 -- ---- values
 
@@ -26,11 +23,11 @@ word ws i = get_or ws i 0
 abbrev pub is_second : ℕ → Bool
 is_second k = eqb k 1
 
-abbrev pub live_of : ℕ → ℕ → Live
-live_of given conn = pick (eqb given 0) live.Nothing (live.On (record { 0 = conn }))
+abbrev pub live_of : ℕ → ℕ → Option ConnectionId
+live_of given conn = pick (eqb given 0) None (Some (record { 0 = conn }))
 
-abbrev pub offer_of : ℕ → ℕ → ℕ → Offer
-offer_of given conn stream = pick (eqb given 0) offer.Nothing (offer.Stream (record { 0 = conn }) (record { 0 = stream }))
+abbrev pub offer_of : ℕ → ℕ → ℕ → Option (ConnectionId × StreamId)
+offer_of given conn stream = pick (eqb given 0) None (Some (record { 0 = conn }, record { 0 = stream }))
 
 -- ready, data, end, closed
 abbrev pub kind_of : ℕ → StreamInput
@@ -38,9 +35,9 @@ kind_of k = pick (eqb k 0) input.Ready (pick (eqb k 1) input.Data (pick (eqb k 2
 
 -- ---- the first line
 
-abbrev pub settings_in : List ℕ → First
+abbrev pub settings_in : List ℕ → Option Settings
 settings_in ws =
-    first.Settings
+    Some
     (record {
       handshake = word ws 0;
       upgrade = word ws 1;
@@ -52,49 +49,47 @@ settings_in ws =
       upgrades = is_second (word ws 7);
     })
 
-unfoldable pub settings_of : List ℕ → First
-settings_of line = tried (read_form settings_form line) settings_in first.Unknown
+unfoldable pub settings_of : List ℕ → Option Settings
+settings_of line = tried (read_form settings_form line) settings_in None
 
 -- ---- the calls
 
-abbrev pub start_of : List ℕ → Line
-start_of ws = Start (word ws 0) (record { 0 = word ws 1 }) (record { 0 = word ws 2 }) (record { 0 = word ws 3 })
+abbrev pub start_of : List ℕ → Option Line
+start_of ws = Some (Start (word ws 0) (record { 0 = word ws 1 }) (record { 0 = word ws 2 }) (record { 0 = word ws 3 }))
 
-abbrev pub up_of : List ℕ → Line
+abbrev pub up_of : List ℕ → Option Line
 up_of ws =
-    Up (word ws 0) (record { 0 = word ws 1 }) (record { 0 = word ws 2 }) (is_second (word ws 3)) (live_of (word ws 4) (word ws 5))
-    (offer_of (word ws 6) (word ws 7) (word ws 8)) (is_second (word ws 9)) (record { start = word ws 10; end = word ws 11 })
+    Some (Up (word ws 0) (record { 0 = word ws 1 }) (record { 0 = word ws 2 }) (is_second (word ws 3)) (live_of (word ws 4) (word ws 5)) (offer_of (word ws 6) (word ws 7) (word ws 8)) (is_second (word ws 9)) (record { start = word ws 10; end = word ws 11 }))
 
 -- only the kind data, the second, may have bytes: none end where they start
 abbrev pub may_have_bytes : List ℕ → Bool
 may_have_bytes ws = either (is_second (word ws 2)) (eqb (word ws 3) (word ws 4))
 
-abbrev pub input_of : List ℕ → Line
+abbrev pub input_of : List ℕ → Option Line
 input_of ws =
     pick (may_have_bytes ws)
-    (Input (word ws 0) (record { 0 = word ws 1 }) (kind_of (word ws 2)) (record { start = word ws 3; end = word ws 4 }) (live_of (word ws 5) (word ws 6))
-    (offer_of (word ws 7) (word ws 8) (word ws 9)) (is_second (word ws 10)) (record { start = word ws 11; end = word ws 12 })) Unknown
+    (Some (Input (word ws 0) (record { 0 = word ws 1 }) (kind_of (word ws 2)) (record { start = word ws 3; end = word ws 4 }) (live_of (word ws 5) (word ws 6)) (offer_of (word ws 7) (word ws 8) (word ws 9)) (is_second (word ws 10)) (record { start = word ws 11; end = word ws 12 }))) None
 
-abbrev pub tick_of : List ℕ → Line
+abbrev pub tick_of : List ℕ → Option Line
 tick_of ws =
-    Tick (word ws 0) (live_of (word ws 1) (word ws 2)) (offer_of (word ws 3) (word ws 4) (word ws 5)) (record { start = word ws 6; end = word ws 7 })
+    Some (Tick (word ws 0) (live_of (word ws 1) (word ws 2)) (offer_of (word ws 3) (word ws 4) (word ws 5)) (record { start = word ws 6; end = word ws 7 }))
 
-abbrev pub wrote_of : List ℕ → Line
-wrote_of ws = Wrote (word ws 0) (record { 0 = word ws 1 }) (record { 0 = word ws 2 })
+abbrev pub wrote_of : List ℕ → Option Line
+wrote_of ws = Some (Wrote (word ws 0) (record { 0 = word ws 1 }) (record { 0 = word ws 2 }))
 
-abbrev pub down_of : List ℕ → Line
-down_of ws = Down (word ws 0) (record { 0 = word ws 1 }) (record { 0 = word ws 2 })
+abbrev pub down_of : List ℕ → Option Line
+down_of ws = Some (Down (word ws 0) (record { 0 = word ws 1 }) (record { 0 = word ws 2 }))
 
-abbrev pub dial_of : List ℕ → Line
-dial_of ws = Dial (word ws 0) (record { 0 = word ws 1 }) (record { 0 = word ws 2 }) (record { 0 = word ws 3 })
+abbrev pub dial_of : List ℕ → Option Line
+dial_of ws = Some (Dial (word ws 0) (record { 0 = word ws 1 }) (record { 0 = word ws 2 }) (record { 0 = word ws 3 }))
 
-abbrev pub forget_of : List ℕ → Line
-forget_of ws = Forget (word ws 0) (record { 0 = word ws 1 })
+abbrev pub forget_of : List ℕ → Option Line
+forget_of ws = Some (Forget (word ws 0) (record { 0 = word ws 1 }))
 
-abbrev pub attribute_of : List ℕ → Line
-attribute_of ws = Attribute (word ws 0) (record { 0 = word ws 1 }) (record { 0 = word ws 2 }) (is_second (word ws 3))
+abbrev pub attribute_of : List ℕ → Option Line
+attribute_of ws = Some (Attribute (word ws 0) (record { 0 = word ws 1 }) (record { 0 = word ws 2 }) (is_second (word ws 3)))
 
-abbrev pub calls : List (Entry Line)
+abbrev pub calls : List (Entry (Option Line))
 calls =
     record { form = start_form; means = start_of } ∷ record { form = up_form; means = up_of } ∷ record { form = input_form; means = input_of }
     ∷ record { form = tick_form; means = tick_of } ∷ record { form = wrote_form; means = wrote_of } ∷ record { form = down_form; means = down_of }
@@ -102,5 +97,5 @@ calls =
     ∷ record { form = attribute_form; means = attribute_of } ∷ []
 
 -- a line of none of these forms is unknown
-unfoldable pub line_of : List ℕ → Line
-line_of line = said Unknown calls line
+unfoldable pub line_of : List ℕ → Option Line
+line_of line = said None calls line

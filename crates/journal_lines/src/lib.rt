@@ -9,19 +9,13 @@ ghost use Rattle.journal_lines.specs.Lines.{is_second, live_of, offer_of, kind_o
 ghost use Rattle.journal_lines.specs.Texts.{SettingsAreRead, StartIsRead, UpIsRead, InputIsRead, TickIsRead, WroteIsRead, DownIsRead, DialIsRead, ForgetIsRead, AttributeIsRead};
 
 use ids::{ConnectId, ConnectionId, NatToken, PeerId, StreamId};
-use vocabulary::{Live, Offer, Settings, StreamInput};
+use vocabulary::{Settings, StreamInput};
 
 // Where hexadecimal digits stand in the line; none for `-`.
 #[derive(Clone, Copy)]
 pub struct Digits {
     pub start: usize,
     pub end: usize,
-}
-
-#[derive(Clone, Copy)]
-pub enum First {
-    Settings(Settings),
-    Unknown,
 }
 
 // `circuit` of an up and an attribute: whether `via` is circuit. `live`, `offer`, `pending` and `own` are the host's answers.
@@ -38,8 +32,8 @@ pub enum Line {
         peer: PeerId,
         conn: ConnectionId,
         circuit: bool,
-        live: Live,
-        offer: Offer,
+        live: Option<ConnectionId>,
+        offer: Option<(ConnectionId, StreamId)>,
         pending: bool,
         own: Digits,
     },
@@ -48,15 +42,15 @@ pub enum Line {
         stream: StreamId,
         kind: StreamInput,
         bytes: Digits,
-        live: Live,
-        offer: Offer,
+        live: Option<ConnectionId>,
+        offer: Option<(ConnectionId, StreamId)>,
         pending: bool,
         own: Digits,
     },
     Tick {
         at: u64,
-        live: Live,
-        offer: Offer,
+        live: Option<ConnectionId>,
+        offer: Option<(ConnectionId, StreamId)>,
         own: Digits,
     },
     Wrote {
@@ -85,7 +79,6 @@ pub enum Line {
         conn: ConnectionId,
         circuit: bool,
     },
-    Unknown,
 }
 
 // ---- values, from the words that a form hands out
@@ -121,22 +114,22 @@ fn digits_at(start: u64, end: u64) -> Digits
     }
 }
 
-fn live(given: u64, conn: u64) -> Live
+fn live(given: u64, conn: u64) -> Option<ConnectionId>
     ensures { result ≡ live_of given conn }
 {
     if given == 0 {
-        return Live::Nothing;
+        return None;
     }
-    Live::On(ConnectionId(conn))
+    Some(ConnectionId(conn))
 }
 
-fn offer(given: u64, conn: u64, stream: u64) -> Offer
+fn offer(given: u64, conn: u64, stream: u64) -> Option<(ConnectionId, StreamId)>
     ensures { result ≡ offer_of given conn stream }
 {
     if given == 0 {
-        return Offer::Nothing;
+        return None;
     }
-    Offer::Stream(ConnectionId(conn), StreamId(stream))
+    Some((ConnectionId(conn), StreamId(stream)))
 }
 
 fn kind(k: u64) -> StreamInput
@@ -166,10 +159,10 @@ fn may_have_bytes(k: u64, start: u64, end: u64) -> bool
 
 // ---- the first line
 
-fn settings(w: &Words) -> First
+fn settings(w: &Words) -> Option<Settings>
     ensures { result ≡ settings_in w.now }
 {
-    First::Settings(Settings {
+    Some(Settings {
         handshake: w[0],
         upgrade: w[1],
         exchange: w[2],
@@ -181,7 +174,7 @@ fn settings(w: &Words) -> First
     })
 }
 
-pub fn read_settings(line: &[u8]) -> First
+pub fn read_settings(line: &[u8]) -> Option<Settings>
     ensures { result ≡ settings_of line.now }
 {
     let mut w = [0u64; 16];
@@ -193,26 +186,26 @@ pub fn read_settings(line: &[u8]) -> First
     ) {
         return settings(&w);
     }
-    First::Unknown
+    None
 }
 
 // ---- the calls
 
-fn start(w: &Words) -> Line
+fn start(w: &Words) -> Option<Line>
     ensures { result ≡ start_of w.now }
 {
-    Line::Start {
+    Some(Line::Start {
         at: w[0],
         source: PeerId(w[1]),
         relay: PeerId(w[2]),
         circuit: ConnectionId(w[3]),
-    }
+    })
 }
 
-fn up(w: &Words) -> Line
+fn up(w: &Words) -> Option<Line>
     ensures { result ≡ up_of w.now }
 {
-    Line::Up {
+    Some(Line::Up {
         at: w[0],
         peer: PeerId(w[1]),
         conn: ConnectionId(w[2]),
@@ -221,14 +214,14 @@ fn up(w: &Words) -> Line
         offer: offer(w[6], w[7], w[8]),
         pending: is_second(w[9]),
         own: digits_at(w[10], w[11]),
-    }
+    })
 }
 
-fn input(w: &Words) -> Line
+fn input(w: &Words) -> Option<Line>
     ensures { result ≡ input_of w.now }
 {
     if may_have_bytes(w[2], w[3], w[4]) {
-        return Line::Input {
+        return Some(Line::Input {
             at: w[0],
             stream: StreamId(w[1]),
             kind: kind(w[2]),
@@ -237,75 +230,75 @@ fn input(w: &Words) -> Line
             offer: offer(w[7], w[8], w[9]),
             pending: is_second(w[10]),
             own: digits_at(w[11], w[12]),
-        };
+        });
     }
-    Line::Unknown
+    None
 }
 
-fn tick(w: &Words) -> Line
+fn tick(w: &Words) -> Option<Line>
     ensures { result ≡ tick_of w.now }
 {
-    Line::Tick {
+    Some(Line::Tick {
         at: w[0],
         live: live(w[1], w[2]),
         offer: offer(w[3], w[4], w[5]),
         own: digits_at(w[6], w[7]),
-    }
+    })
 }
 
-fn wrote(w: &Words) -> Line
+fn wrote(w: &Words) -> Option<Line>
     ensures { result ≡ wrote_of w.now }
 {
-    Line::Wrote {
+    Some(Line::Wrote {
         at: w[0],
         conn: ConnectionId(w[1]),
         stream: StreamId(w[2]),
-    }
+    })
 }
 
-fn down(w: &Words) -> Line
+fn down(w: &Words) -> Option<Line>
     ensures { result ≡ down_of w.now }
 {
-    Line::Down {
+    Some(Line::Down {
         at: w[0],
         peer: PeerId(w[1]),
         conn: ConnectionId(w[2]),
-    }
+    })
 }
 
-fn dial(w: &Words) -> Line
+fn dial(w: &Words) -> Option<Line>
     ensures { result ≡ dial_of w.now }
 {
-    Line::Dial {
+    Some(Line::Dial {
         at: w[0],
         conn: ConnectionId(w[1]),
         token: NatToken(w[2]),
         id: ConnectId(w[3]),
-    }
+    })
 }
 
-fn forget(w: &Words) -> Line
+fn forget(w: &Words) -> Option<Line>
     ensures { result ≡ forget_of w.now }
 {
-    Line::Forget {
+    Some(Line::Forget {
         at: w[0],
         conn: ConnectionId(w[1]),
-    }
+    })
 }
 
-fn attribute(w: &Words) -> Line
+fn attribute(w: &Words) -> Option<Line>
     ensures { result ≡ attribute_of w.now }
 {
-    Line::Attribute {
+    Some(Line::Attribute {
         at: w[0],
         peer: PeerId(w[1]),
         conn: ConnectionId(w[2]),
         circuit: is_second(w[3]),
-    }
+    })
 }
 
 // A line behind the first. The forms share no line; those that most lines have are tried first.
-pub fn read_call(line: &[u8]) -> Line
+pub fn read_call(line: &[u8]) -> Option<Line>
     ensures { result ≡ line_of line.now }
 {
     let mut w = [0u64; 16];
@@ -349,7 +342,7 @@ pub fn read_call(line: &[u8]) -> Line
     if forms::read_form(b"do=wrote at=# conn=# stream=#", line, &mut w) {
         return wrote(&w);
     }
-    Line::Unknown
+    None
 }
 
 // ---- laws of the forms

@@ -6,6 +6,7 @@ use Prim.Native.Nat.{ℕ, zero, suc, ◌+◌, ◌*◌, ◌≤◌}
 use native.Mathlib.Omega.{arith}
 use lib.Dec.{eqb}
 use lib.ListN.{length, take, drop, length-append, length-take, length-drop}
+use Rattle.std.specs.Prelude.{None, Option, Some}
 use Rattle.prelude.specs.Choice.{pick}
 use Rattle.prelude.specs.Numbers.{max_u64}
 use Rattle.text.specs.Hexadecimal.{hexadecimal}
@@ -16,7 +17,7 @@ use Rattle.forms.specs.Texts.{number, bytes, word, text, kind_of_value}
 use Rattle.forms.specs.Room.{longest, room_from, room_of, KindsFrom, AllAtMost}
 use Rattle.forms.proofs.Room.{hexadecimal_length, text_short}
 use Rattle.wire.specs.Lists.{size_at, opens, along, entries}
-use Rattle.wire.proofs.Entries.{opens_long}
+use Rattle.wire.proofs.EntryByEntry.{opens_long}
 use Rattle.refusal.specs.Number.{number_of}
 use Rattle.refusal.specs.declared.Refusal.{Refusal}
 use Rattle.path.specs.declared.Owner.{Owner}
@@ -159,12 +160,12 @@ refused_short : (n : ℕ) (a : ℕ) → n ≤ max_u64 → a ≤ max_u64 → leng
 unfolding KindsFrom kind_of kind_of_value AllAtMost
 refused_short n a h0 h1 = omega (arith, refused_room, text_short message_most refused_form (number n ∷ number a ∷ []) (refl, (refl, tt)) (h0, (h1, tt)))
 
-owner_short : (n place : ℕ) (o : Owner) → n ≤ max_u64 → OwnerFits o → length (owned_text n place o) ≤ room
-owner_short n place (owner_of.Attempt id) h f = simp length-append (omega (arith, owned_short n place id.0 h (f id refl)))
-owner_short n place owner_of.Inbound h f = simp length-append (omega (arith, named_short n place 0 h))
-owner_short n place owner_of.None h f = simp length-append (omega (arith, named_short n place 1 h))
+owner_short : (n place : ℕ) (o : Option Owner) → n ≤ max_u64 → OwnerFits o → length (owned_text n place o) ≤ room
+owner_short n place (Some (owner_of.Attempt id)) h f = simp length-append (omega (arith, owned_short n place id.0 h (f id refl)))
+owner_short n place (Some owner_of.Inbound) h f = simp length-append (omega (arith, named_short n place 0 h))
+owner_short n place None h f = simp length-append (omega (arith, named_short n place 1 h))
 
-no_owner : OwnerFits owner_of.None
+no_owner : OwnerFits None
 no_owner id e = let z : ◌≡◌ {A = ℕ} 0 1 = cc in absurd (omega arith)
 
 pub short : {t : List ℕ} → Output t → length t ≤ room
@@ -177,7 +178,7 @@ short (is_burst n times payload targets h i j k) = simp length-append (omega (ar
 short (is_close n conn h i) = simp length-append (omega (arith, close_short n conn.0 h i))
 short (is_upgrade n peer old new h i j k) = simp length-append (omega (arith, upgrade_short n peer.0 old.0 new.0 h i j k))
 short (is_attributed n a h i) = owner_short n (path_place a.path) a.owner h i
-short (is_unattributed n h) = owner_short n no_path owner_of.None h no_owner
+short (is_unattributed n h) = owner_short n no_path None h no_owner
 short (is_refused n why h) = simp length-append (omega (arith, refused_short n (number_of why) h (refusal_most why)))
 
 pub four_whole : (buffer a b c d : List ℕ) → 4 * room ≤ length buffer → Output a → Output b → Output c → Output d → Whole buffer a b c d

@@ -1,5 +1,5 @@
 -- What the journal prints (RULES.md, section 12.7): the text of each output, in the line n.
-use Rattle.std.specs.Prelude.{ℕ, List, [], ◌∷◌, ◌++◌}
+use Rattle.std.specs.Prelude.{ℕ, List, [], ◌∷◌, ◌++◌, None, Option, Some}
 use Rattle.text.specs.Words.{ascii}
 use Rattle.text.specs.Hexadecimal.{hexadecimal}
 use Rattle.forms.specs.Texts.{Value, number, bytes, word, text}
@@ -13,10 +13,8 @@ use Rattle.ids.specs.declared.StreamId.{StreamId}
 use Rattle.path.specs.declared.Path.{Path}
 use Rattle.path.specs.declared.Owner.{Owner}
 use Rattle.path.specs.declared.Attribution.{Attribution}
-use Rattle.path.specs.declared.FoundPath.{FoundPath}
 use Rattle.path.specs.declared.Path.TheVariants as path
 use Rattle.path.specs.declared.Owner.TheVariants as owner
-use Rattle.path.specs.declared.FoundPath.TheVariants as found
 
 -- the values of a form, and a line feed
 abbrev pub line_text : List ℕ → List Value → List ℕ
@@ -66,20 +64,20 @@ abbrev pub no_path : ℕ
 no_path = 3
 
 -- an attempt's number, inbound, or none
-abbrev pub owned_text : ℕ → ℕ → Owner → List ℕ
-owned_text n place (owner.Attempt id) = line_text owned_form (number n ∷ word place ∷ number id.0 ∷ [])
-owned_text n place owner.Inbound = line_text named_form (number n ∷ word place ∷ word 0 ∷ [])
-owned_text n place owner.None = line_text named_form (number n ∷ word place ∷ word 1 ∷ [])
+abbrev pub owned_text : ℕ → ℕ → Option Owner → List ℕ
+owned_text n place (Some (owner.Attempt id)) = line_text owned_form (number n ∷ word place ∷ number id.0 ∷ [])
+owned_text n place (Some owner.Inbound) = line_text named_form (number n ∷ word place ∷ word 0 ∷ [])
+owned_text n place None = line_text named_form (number n ∷ word place ∷ word 1 ∷ [])
 
 abbrev pub attribution_text : ℕ → Attribution → List ℕ
 attribution_text n a = owned_text n (path_place a.path) a.owner
 
 abbrev pub unattributed_text : ℕ → List ℕ
-unattributed_text n = owned_text n no_path owner.None
+unattributed_text n = owned_text n no_path None
 
-abbrev pub attributed_text : ℕ → FoundPath → List ℕ
-attributed_text n (found.At a) = attribution_text n a
-attributed_text n found.None = unattributed_text n
+abbrev pub attributed_text : ℕ → Option Attribution → List ℕ
+attributed_text n (Some a) = attribution_text n a
+attributed_text n None = unattributed_text n
 
 abbrev pub refused_text : ℕ → Refusal → List ℕ
 refused_text n why = line_text refused_form (number n ∷ number (number_of why) ∷ [])

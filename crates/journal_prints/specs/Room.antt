@@ -1,6 +1,6 @@
 -- How long an output is at most (RULES.md, section 12.7). Numbers are of 64 bits, a framed message is one that goes out, and a target list one
 -- that was chosen.
-use Rattle.std.specs.Prelude.{ℕ, ◌+◌, ◌*◌, ◌≤◌, ◌≡◌, List, ◌++◌, length, take}
+use Rattle.std.specs.Prelude.{ℕ, ◌+◌, ◌*◌, ◌≤◌, ◌≡◌, List, ◌++◌, length, take, Option, Some}
 use Rattle.prelude.specs.Numbers.{max_u64}
 use Rattle.text.specs.Printed.{printed, behind}
 use Rattle.refusal.specs.declared.Refusal.{Refusal}
@@ -30,8 +30,8 @@ abbrev pub room : ℕ
 room = burst_head + 2 * list_most + 1
 
 -- an owner's number is of 64 bits
-abbrev pub OwnerFits : Owner → Type 0
-OwnerFits owner = (id : ConnectId) → owner ≡ Attempt id → id.0 ≤ max_u64
+abbrev pub OwnerFits : Option Owner → Type 0
+OwnerFits owner = (id : ConnectId) → owner ≡ Some (Attempt id) → id.0 ≤ max_u64
 
 -- the texts that are printed
 pub data Output : List ℕ → Type 0 where

@@ -11,9 +11,9 @@ ghost use Rattle.journal_prints.specs.Outputs.{with_commas, targets_text, path_p
 ghost use Rattle.journal_prints.specs.Room.{room, Output, Whole};
 
 use ids::{ConnectionId, PeerId, StreamId};
-use path::{Attribution, FoundPath, Owner, Path};
+use path::{Attribution, Owner, Path};
 use refusal::Refusal;
-use wire::Entry;
+use wire::EntryIter;
 
 pub fn put_none(n: u64, out: &mut [u8], at: usize) -> usize
     ensures bytes { out.new ≡ printed out.old at (none_text n) }
@@ -80,25 +80,17 @@ pub fn put_reset(n: u64, conn: ConnectionId, stream: StreamId, out: &mut [u8], a
     text::put_byte(b'\n', out, p)
 }
 
-// The addresses of a list, a comma before each.
-fn put_others(list: &[u8], out: &mut [u8], at: usize) -> usize
-    ensures bytes { out.new ≡ printed out.old at (with_commas (entries list.now)) }
-    ensures place { result ≡ behind out.old at (with_commas (entries list.now)) }
+// The addresses left of a list, a comma before each.
+fn put_others(left: EntryIter<'_>, out: &mut [u8], at: usize) -> usize
+    ensures bytes { out.new ≡ printed out.old at (with_commas left.entry) }
+    ensures place { result ≡ behind out.old at (with_commas left.entry) }
 {
-    let mut i: usize = 0;
     let mut p = at;
-    loop {
-        let e = wire::entry_at(list, i);
-        match e {
-            Entry::End => return p,
-            Entry::Broken => return p,
-            Entry::Address { start, end } => {
-                p = text::put_byte(b',', out, p);
-                p = text::put_hexadecimal(&list[start..end], out, p);
-                i = end;
-            }
-        }
+    for address in left {
+        p = text::put_byte(b',', out, p);
+        p = text::put_hexadecimal(address, out, p);
     }
+    p
 }
 
 // The addresses of a list in order, commas between; of a broken list those before the break.
@@ -106,13 +98,12 @@ fn put_targets(list: &[u8], out: &mut [u8], at: usize) -> usize
     ensures bytes { out.new ≡ printed out.old at (targets_text (entries list.now)) }
     ensures place { result ≡ behind out.old at (targets_text (entries list.now)) }
 {
-    let e = wire::entry_at(list, 0);
-    match e {
-        Entry::End => at,
-        Entry::Broken => at,
-        Entry::Address { start, end } => {
-            let p = text::put_hexadecimal(&list[start..end], out, at);
-            put_others(&list[end..], out, p)
+    let mut left = wire::entries(list);
+    match left.next() {
+        None => at,
+        Some(first) => {
+            let p = text::put_hexadecimal(first, out, at);
+            put_others(left, out, p)
         }
     }
 }
@@ -212,14 +203,14 @@ fn put_named(n: u64, place: u64, owner: u64, out: &mut [u8], at: usize) -> usize
     text::put_byte(b'\n', out, p)
 }
 
-fn put_owner(n: u64, place: u64, owner: Owner, out: &mut [u8], at: usize) -> usize
+fn put_owner(n: u64, place: u64, owner: Option<Owner>, out: &mut [u8], at: usize) -> usize
     ensures bytes { out.new ≡ printed out.old at (owned_text n place owner) }
     ensures place { result ≡ behind out.old at (owned_text n place owner) }
 {
     match owner {
-        Owner::Attempt(id) => put_owned(n, place, id.0, out, at),
-        Owner::Inbound => put_named(n, place, 0, out, at),
-        Owner::None => put_named(n, place, 1, out, at),
+        Some(Owner::Attempt(id)) => put_owned(n, place, id.0, out, at),
+        Some(Owner::Inbound) => put_named(n, place, 0, out, at),
+        None => put_named(n, place, 1, out, at),
     }
 }
 
@@ -233,13 +224,13 @@ fn put_attribution(n: u64, found: Attribution, out: &mut [u8], at: usize) -> usi
     put_owner(n, place, owner, out, at)
 }
 
-pub fn put_attributed(n: u64, found: FoundPath, out: &mut [u8], at: usize) -> usize
+pub fn put_attributed(n: u64, found: Option<Attribution>, out: &mut [u8], at: usize) -> usize
     ensures bytes { out.new ≡ printed out.old at (attributed_text n found) }
     ensures place { result ≡ behind out.old at (attributed_text n found) }
 {
     match found {
-        FoundPath::At(a) => put_attribution(n, a, out, at),
-        FoundPath::None => put_owner(n, NO_PATH, Owner::None, out, at),
+        Some(a) => put_attribution(n, a, out, at),
+        None => put_owner(n, NO_PATH, None, out, at),
     }
 }
 

@@ -9,10 +9,10 @@ use lib.Dec.{eqb, ltb}
 use lib.ListN.{length, take, drop, length-append, length-drop, length-take, drop_of_length-le}
 use lib.Seq.{take-append_seam, drop-append-add, take_all}
 use borrow.Author.Tests.{lt-ltb, le-ltb, eq-eqb, ne_eqb}
+use Rattle.std.specs.Prelude.{None}
 use Rattle.prelude.specs.Choice.{pick}
 use Rattle.text.specs.Words.{length_before}
 use Rattle.lines.proofs.Feeds.{joined}
-use Rattle.journal_lines.specs.declared.Line.TheVariants.{Unknown}
 use Rattle.lines.specs.Lines.{longest}
 use Rattle.journal_calls.specs.Calls.{Journal}
 use Rattle.journal_turns.specs.Turns.{read, turn_of, line_turn}
@@ -68,7 +68,7 @@ lines = record { ended = ended; last = last }
             (ap (λ (r : List (List ℕ × Bool)). (text, false) ∷ r) (enough n 0 [] (omega arith) (omega arith)))
 
 -- a line that is too long has no known form
-unknown : (line : List ℕ) (ended : Bool) → longest ≤ length line → read line ended ≡ Unknown
+unknown : (line : List ℕ) (ended : Bool) → longest ≤ length line → read line ended ≡ None
 unfolding read
 unknown line true h = rw (le-ltb (length line) longest h)
 unknown line false h = refl

@@ -7,6 +7,7 @@ use native.Mathlib.Omega.{arith}
 use lib.Dec.{ltb}
 use lib.ListN.{length, take, replicate, length-append, length-take, length-replicate}
 use borrow.Author.Tests.{ltb-true, ltb-false}
+use Rattle.std.specs.Prelude.{None, Option, Some}
 use Rattle.text.specs.Printed.{behind}
 use Rattle.text.proofs.Printing.{length_kept, fits}
 use Rattle.lines.specs.Lines.{longest}
@@ -17,13 +18,12 @@ use Rattle.line_program.proofs.GoingOn.{apart}
 use Rattle.rows.specs.Words.{ledger_words}
 use Rattle.ledger.specs.Ledger.{PathLedger, tables_of, empty_ledger}
 use Rattle.carried.specs.Carried.{no_frame, no_aims}
-use Rattle.journal_lines.specs.declared.First.{First}
 use Rattle.journal_calls.specs.Calls.{Journal, state_of, whole, new_journal}
 use Rattle.journal_turns.specs.Turns.{line_turn}
 use Rattle.journal_text.specs.Texts.{first_of, is_good, opened, opening_text}
 use Rattle.journal_text.specs.Journals.{cut, lines_of, bytes_of, endless}
 use Rattle.journal_text.proofs.Cutting.{lines as law, long_same, long_first}
-use Rattle.journal_lines.specs.declared.First.TheVariants as first
+use Rattle.vocabulary.specs.declared.Settings.{Settings}
 
 abbrev pub Line : Type 0
 Line = List ℕ × Bool
@@ -172,9 +172,9 @@ module _ (lines : List Line) {line mid block after : List ℕ} {r : Reading} (x 
 -- ---- the first line
 
 -- a good one prints nothing
-pub silent : (f : First) → is_good f ≡ true → opening_text f ≡ []
-silent (first.Settings s) g = refl
-silent first.Unknown g = apart (sym g)
+pub silent : (f : Option Settings) → is_good f ≡ true → opening_text f ≡ []
+silent (Some s) g = refl
+silent None g = apart (sym g)
 
 -- and a line feed ends it
 pub unended : (a : List ℕ) {ended : Bool} → ended ≡ false → first_of a ended ≡ first_of [] false
@@ -191,7 +191,7 @@ good_ended a false g = apart (sym g ∙ ap is_good (unended a refl) ∙ never_go
 
 -- what is lent is blank at first
 pub blank_lent : {connect targets sent ws : List ℕ} → connect ≡ no_frame → targets ≡ no_aims → sent ≡ no_frame → ws ≡ replicate ledger_words 0
-    → tables_of ws ≡ empty_ledger → (f : First) → whole (state_of (opened f)) connect targets (tables_of ws) ws sent ≡ opened f
+    → tables_of ws ≡ empty_ledger → (f : Option Settings) → whole (state_of (opened f)) connect targets (tables_of ws) ws sent ≡ opened f
 unfolding opened new_journal
 blank_lent {connect} {targets} {sent} {ws} a b c d e f =
     ap (λ (x : List ℕ). whole (state_of (opened f)) x targets (tables_of ws) ws sent) a

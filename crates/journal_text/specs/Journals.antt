@@ -1,14 +1,14 @@
 -- What a whole journal prints (RULES.md, section 12): from the bytes of the input to those of the output.
-use Rattle.std.specs.Prelude.{ℕ, zero, suc, ◌<◌, ◌≤◌, ◌≡◌, Bool, true, false, List, [], ◌∷◌, ◌++◌, eqb, ltb, length, take, drop, replicate}
+use Rattle.std.specs.Prelude.{ℕ, zero, suc, ◌<◌, ◌≤◌, ◌≡◌, Bool, true, false, List, [], ◌∷◌, ◌++◌, eqb, ltb, length, take, drop, replicate, Option}
 use Rattle.prelude.specs.Choice.{pick}
 use Rattle.text.specs.Words.{length_before}
 use Rattle.wire.specs.Frame.{max_frame_size}
 use Rattle.line_program.specs.Reads.{feed}
-use Rattle.journal_lines.specs.declared.First.{First}
 use Rattle.lines.specs.Lines.{longest}
 use Rattle.journal_calls.specs.Calls.{Journal}
 use Rattle.journal_turns.specs.Turns.{line_turn}
 use Rattle.journal_text.specs.Texts.{first_of, is_good, opened, opening_text, line_text}
+use Rattle.vocabulary.specs.declared.Settings.{Settings}
 
 -- the first n lines of an input, each without its line feed, and whether it has one (section 12.1): a line goes up to its line feed, the
 -- byte 10; bytes behind the last line feed are a line without one
@@ -34,7 +34,7 @@ lines_text j reply (l ∷ rest) =
     line_text j reply l.0 l.1 ++ lines_text (line_turn j reply l.0 l.1).turn.journal (line_turn j reply l.0 l.1).reply rest
 
 -- the reply buffer has 4,098 bytes, zero at first (section 12.5)
-unfoldable pub opening : First → List (List ℕ × Bool) → List ℕ
+unfoldable pub opening : Option Settings → List (List ℕ × Bool) → List ℕ
 opening f rest = pick (is_good f) (lines_text (opened f) (replicate max_frame_size 0) rest) (opening_text f)
 
 -- an input without a line has no good first line
@@ -52,7 +52,7 @@ abbrev pub endless : ℕ
 endless = 9223372036854775807
 
 -- what the first line says; an input without a line has no good one
-abbrev pub first_in : List (List ℕ × Bool) → First
+abbrev pub first_in : List (List ℕ × Bool) → Option Settings
 first_in [] = first_of [] false
 first_in (first ∷ rest) = first_of first.0 first.1
 

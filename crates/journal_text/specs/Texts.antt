@@ -1,10 +1,9 @@
 -- What a journal prints (RULES.md, sections 12.4 and 12.7).
-use Rattle.std.specs.Prelude.{ℕ, Bool, true, false, List, [], ltb, length}
+use Rattle.std.specs.Prelude.{ℕ, Bool, true, false, List, [], ltb, length, None, Option, Some}
 use Rattle.prelude.specs.Choice.{pick, both}
 use Rattle.refusal.specs.declared.Refusal.TheVariants.{UnknownLine}
 use Rattle.vocabulary.specs.declared.Settings.{Settings}
 use Rattle.journal_lines.specs.Lines.{settings_of}
-use Rattle.journal_lines.specs.declared.First.{First}
 use Rattle.journal_prints.specs.Outputs.{attributed_text, refused_text}
 use Rattle.journal_effects.specs.Effects.{effects_text}
 use Rattle.journal_effects.specs.declared.Effects.{Effects}
@@ -12,32 +11,31 @@ use Rattle.lines.specs.Lines.{longest}
 use Rattle.journal_calls.specs.Calls.{Journal, Turned, new_journal}
 use Rattle.journal_turns.specs.Turns.{line_turn}
 use Rattle.journal_calls.specs.declared.Said.{Said}
-use Rattle.journal_lines.specs.declared.First.TheVariants as first
 use Rattle.journal_calls.specs.declared.Said.TheVariants as said
 
 -- ---- the first line (section 12.4)
 
 -- what it says: nothing known without a line feed, or where it is too long with it
-unfoldable pub first_of : List ℕ → Bool → First
-first_of line ended = pick (both ended (ltb (length line) longest)) (settings_of line) first.Unknown
+unfoldable pub first_of : List ℕ → Bool → Option Settings
+first_of line ended = pick (both ended (ltb (length line) longest)) (settings_of line) None
 
-abbrev pub is_good : First → Bool
-is_good (first.Settings s) = true
-is_good first.Unknown = false
+abbrev pub is_good : Option Settings → Bool
+is_good (Some s) = true
+is_good None = false
 
 -- the settings of every circuit; where there are none the program ends and none is used
-abbrev pub settings_in : First → Settings
-settings_in (first.Settings s) = s
-settings_in first.Unknown =
+abbrev pub settings_in : Option Settings → Settings
+settings_in (Some s) = s
+settings_in None =
     record { handshake = 0; upgrade = 0; exchange = 0; punch = 0; interval = 0; payload = 0; private = false; upgrades = false }
 
-unfoldable pub opened : First → Journal
+unfoldable pub opened : Option Settings → Journal
 opened f = new_journal (settings_in f)
 
 -- a good first line prints nothing, any other n=0 and 11
-abbrev pub opening_text : First → List ℕ
-opening_text (first.Settings s) = []
-opening_text first.Unknown = refused_text 0 UnknownLine
+abbrev pub opening_text : Option Settings → List ℕ
+opening_text (Some s) = []
+opening_text None = refused_text 0 UnknownLine
 
 -- ---- the lines behind it (section 12.7)
 

@@ -14,10 +14,9 @@ ghost use Rattle.journal_text.specs.Texts.{first_of, is_good, settings_in, opene
 use frames::FrameBytes;
 use journal_calls::{Said, State};
 use journal_effects::Effects;
-use journal_lines::First;
 use ledger::Ledger;
 use lent::TargetBytes;
-use path::{FoundPath, Owner};
+use path::{Attribution, Owner};
 use refusal::Refusal;
 use vocabulary::Settings;
 
@@ -31,24 +30,22 @@ pub struct Opening {
     pub next: usize,
 }
 
-fn read_first(line: &[u8], ended: bool) -> First
+#[tactic(auto, unfolding(crate::specs::Texts::first_of))]
+fn read_first(line: &[u8], ended: bool) -> Option<Settings>
     ensures { result ≡ first_of line.now ended }
 {
-    if ended {
-        if line.len() < lines::LONGEST {
-            return journal_lines::read_settings(line);
-        }
-        return First::Unknown;
+    if ended && line.len() < lines::LONGEST {
+        return journal_lines::read_settings(line);
     }
-    First::Unknown
+    None
 }
 
-fn settings_in(first: First) -> Settings
+fn settings_in(first: Option<Settings>) -> Settings
     ensures { result ≡ settings_in first }
 {
     match first {
-        First::Settings(settings) => settings,
-        First::Unknown => Settings {
+        Some(settings) => settings,
+        None => Settings {
             handshake: 0,
             upgrade: 0,
             exchange: 0,
@@ -73,50 +70,42 @@ pub fn open_journal(line: &[u8], ended: bool, out: &mut [u8], at: usize) -> Open
     let settings = settings_in(first);
     let state = journal_turns::new_journal(settings);
     match first {
-        First::Settings(_) => {
-            return Opening {
-                good: true,
-                state: state,
-                next: at,
-            };
-        }
-        First::Unknown => {
-            let p = journal_prints::put_refused(0, Refusal::UnknownLine, out, at);
-            return Opening {
-                good: false,
-                state: state,
-                next: p,
-            };
-        }
+        Some(_) => Opening {
+            good: true,
+            state,
+            next: at,
+        },
+        None => Opening {
+            good: false,
+            state,
+            next: journal_prints::put_refused(0, Refusal::UnknownLine, out, at),
+        },
     }
 }
 
 // ---- the lines behind it
 
-fn owner_in_range(owner: Owner)
+fn owner_in_range(owner: Option<Owner>)
     ensures { OwnerFits owner }
 {
     match owner {
-        Owner::Attempt(id) => text::in_range(id.0, id.0, id.0),
-        Owner::Inbound => {}
-        Owner::None => {}
+        Some(Owner::Attempt(id)) => text::in_range(id.0, id.0, id.0),
+        Some(Owner::Inbound) => {}
+        None => {}
     }
 }
 
-fn put_found(n: u64, found: FoundPath, out: &mut [u8], at: usize) -> usize
+fn put_found(n: u64, found: Option<Attribution>, out: &mut [u8], at: usize) -> usize
     ensures bytes { out.new ≡ printed out.old at (attributed_text n found) }
     ensures place { result ≡ behind out.old at (attributed_text n found) }
     ensures short { length (attributed_text n found) ≤ 4 * room }
 {
     match found {
-        FoundPath::At(attribution) => {
-            let owner = attribution.owner;
-            owner_in_range(owner);
-            return journal_prints::put_attributed(n, found, out, at);
+        Some(attribution) => {
+            owner_in_range(attribution.owner);
+            journal_prints::put_attributed(n, found, out, at)
         }
-        FoundPath::None => {
-            return journal_prints::put_attributed(n, found, out, at);
-        }
+        None => journal_prints::put_attributed(n, found, out, at),
     }
 }
 
@@ -134,15 +123,9 @@ fn put_said(
     ensures short { length (said_text n effects sent.now aims.now said) ≤ 4 * room }
 {
     match said {
-        Said::Effects => {
-            return journal_effects::put_effects(n, effects, sent, aims, out, at);
-        }
-        Said::Attributed(found) => {
-            return put_found(n, found, out, at);
-        }
-        Said::Refused(why) => {
-            return journal_prints::put_refused(n, why, out, at);
-        }
+        Said::Effects => journal_effects::put_effects(n, effects, sent, aims, out, at),
+        Said::Attributed(found) => put_found(n, found, out, at),
+        Said::Refused(why) => journal_prints::put_refused(n, why, out, at),
     }
 }
 
@@ -175,9 +158,7 @@ pub fn answer_line(
 {
     let t = journal_turns::take_line(j, connect, targets, sent, ledger, reply, line, ended);
     let next = t.state;
-    let said = t.said;
-    let effects = t.effects;
-    let p = put_said(next.n, said, effects, sent, targets, out, at);
+    let p = put_said(next.n, t.said, t.effects, sent, targets, out, at);
     Answered {
         state: next,
         next: p,

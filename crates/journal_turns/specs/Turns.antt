@@ -1,19 +1,19 @@
 -- What a journal's lines do (RULES.md, sections 12.1, 12.5 and 12.6): each is counted and read, and its call is made.
-use Rattle.std.specs.Prelude.{ℕ, Bool, true, false, List, ltb, length}
+use Rattle.std.specs.Prelude.{ℕ, Bool, true, false, List, ltb, length, None, Option, Some}
 use Rattle.time.specs.Time.{plus}
 use Rattle.prelude.specs.Choice.{pick, both, no}
 use Rattle.text.specs.Hexadecimal.{bytes_of}
 use Rattle.lines.specs.Lines.{longest}
 use Rattle.forms.specs.Texts.{part}
 use Rattle.refusal.specs.declared.Refusal.TheVariants.{UnknownLine, NotStarted}
-use Rattle.vocabulary.specs.declared.Live.{Live}
-use Rattle.vocabulary.specs.declared.Offer.{Offer}
 use Rattle.vocabulary.specs.declared.Host.{Host}
 use Rattle.journal_lines.specs.Lines.{line_of}
 use Rattle.journal_lines.specs.declared.Digits.{Digits}
 use Rattle.journal_lines.specs.declared.Line.{Line}
-use Rattle.journal_lines.specs.declared.Line.TheVariants.{Start, Up, Input, Tick, Wrote, Down, Dial, Forget, Attribute, Unknown}
+use Rattle.journal_lines.specs.declared.Line.TheVariants.{Start, Up, Input, Tick, Wrote, Down, Dial, Forget, Attribute}
 use Rattle.journal_calls.specs.Calls.{Journal, Turned, refused, start_turn, up_turn, Taken, input_turn, tick_turn, wrote_turn, down_turn, dial_turn, forget_turn, attribute_turn}
+use Rattle.ids.specs.declared.ConnectionId.{ConnectionId}
+use Rattle.ids.specs.declared.StreamId.{StreamId}
 
 -- ---- what a line hands to its call (section 12.5)
 
@@ -22,7 +22,7 @@ abbrev pub digits_bytes : List ℕ → Digits → List ℕ
 digits_bytes line d = bytes_of (part line d.start d.end)
 
 -- the host's answers: a reading, the live connection, the offer
-unfoldable pub host_of : ℕ → Live → Offer → Host
+unfoldable pub host_of : ℕ → Option ConnectionId → Option (ConnectionId × StreamId) → Host
 host_of at l o = record { at = at; live = l; offer = o }
 
 -- ---- a line
@@ -32,41 +32,41 @@ abbrev pub apart : List ℕ → Turned → Taken
 apart reply t = record { turn = t; reply = reply }
 
 -- a call by what the line says; a line of no known form is refused with 11
-abbrev pub call_turn : List ℕ → Journal → List ℕ → Line → Taken
-call_turn line j reply (Start at source relay conn) = apart reply (start_turn j at source relay conn)
-call_turn line j reply (Up at peer conn relayed l o pending own) =
+abbrev pub call_turn : List ℕ → Journal → List ℕ → Option Line → Taken
+call_turn line j reply (Some (Start at source relay conn)) = apart reply (start_turn j at source relay conn)
+call_turn line j reply (Some (Up at peer conn relayed l o pending own)) =
     apart reply (up_turn j (host_of at l o) (digits_bytes line own) peer conn relayed)
-call_turn line j reply (Input at stream k bytes l o pending own) =
+call_turn line j reply (Some (Input at stream k bytes l o pending own)) =
     input_turn j (host_of at l o) (digits_bytes line own) reply stream k (digits_bytes line bytes) pending
-call_turn line j reply (Tick at l o own) = apart reply (tick_turn j (host_of at l o) (digits_bytes line own))
-call_turn line j reply (Wrote at conn stream) = apart reply (wrote_turn j at conn stream)
-call_turn line j reply (Down at peer conn) = apart reply (down_turn j conn)
-call_turn line j reply (Dial at conn token id) = apart reply (dial_turn j conn token id)
-call_turn line j reply (Forget at conn) = apart reply (forget_turn j conn)
-call_turn line j reply (Attribute at peer conn relayed) = apart reply (attribute_turn j at peer conn relayed)
-call_turn line j reply Unknown = apart reply (refused j UnknownLine)
+call_turn line j reply (Some (Tick at l o own)) = apart reply (tick_turn j (host_of at l o) (digits_bytes line own))
+call_turn line j reply (Some (Wrote at conn stream)) = apart reply (wrote_turn j at conn stream)
+call_turn line j reply (Some (Down at peer conn)) = apart reply (down_turn j conn)
+call_turn line j reply (Some (Dial at conn token id)) = apart reply (dial_turn j conn token id)
+call_turn line j reply (Some (Forget at conn)) = apart reply (forget_turn j conn)
+call_turn line j reply (Some (Attribute at peer conn relayed)) = apart reply (attribute_turn j at peer conn relayed)
+call_turn line j reply None = apart reply (refused j UnknownLine)
 
 -- any call but start needs an accepted start before it (section 12.6); a line of no known form is no call
-abbrev pub needs_start : Line → Bool
-needs_start (Start at source relay conn) = false
-needs_start (Up at peer conn relayed l o pending own) = true
-needs_start (Input at stream k bytes l o pending own) = true
-needs_start (Tick at l o own) = true
-needs_start (Wrote at conn stream) = true
-needs_start (Down at peer conn) = true
-needs_start (Dial at conn token id) = true
-needs_start (Forget at conn) = true
-needs_start (Attribute at peer conn relayed) = true
-needs_start Unknown = false
+abbrev pub needs_start : Option Line → Bool
+needs_start (Some (Start at source relay conn)) = false
+needs_start (Some (Up at peer conn relayed l o pending own)) = true
+needs_start (Some (Input at stream k bytes l o pending own)) = true
+needs_start (Some (Tick at l o own)) = true
+needs_start (Some (Wrote at conn stream)) = true
+needs_start (Some (Down at peer conn)) = true
+needs_start (Some (Dial at conn token id)) = true
+needs_start (Some (Forget at conn)) = true
+needs_start (Some (Attribute at peer conn relayed)) = true
+needs_start None = false
 
 -- before a start was accepted what needs one is refused with 12, whatever its own refusals; 11 is given before and behind it
-unfoldable pub turn_of : List ℕ → Journal → List ℕ → Line → Taken
+unfoldable pub turn_of : List ℕ → Journal → List ℕ → Option Line → Taken
 turn_of line j reply call =
     pick (both (needs_start call) (no j.begun)) (apart reply (refused j NotStarted)) (call_turn line j reply call)
 
 -- what a line says: nothing known without a line feed, or where it is too long with it
-unfoldable pub read : List ℕ → Bool → Line
-read line ended = pick (both ended (ltb (length line) longest)) (line_of line) Unknown
+unfoldable pub read : List ℕ → Bool → Option Line
+read line ended = pick (both ended (ltb (length line) longest)) (line_of line) None
 
 -- one line more; n stays at the largest number (section 12.7)
 unfoldable pub counted : Journal → Journal

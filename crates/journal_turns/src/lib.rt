@@ -2,7 +2,7 @@
 // lent: the circuit's CONNECT and targets, the message that goes out, the ledger, and the reply buffer.
 #![tactic(auto)]
 
-ghost use Rattle.std.specs.Prelude.{◌≡◌, ◌<◌, length, replicate};
+ghost use Rattle.std.specs.Prelude.{◌≡◌, ◌<◌, length, replicate, Some};
 ghost use Rattle.text.specs.Printed.{printed, behind};
 ghost use Rattle.ledger.specs.Ledger.{tables_of, laid};
 ghost use Rattle.circuit.specs.State.{terms_of};
@@ -20,7 +20,7 @@ use journal_lines::{Digits, Line};
 use ledger::Ledger;
 use lent::TargetBytes;
 use refusal::Refusal;
-use vocabulary::{Host, Live, Offer, Settings, StreamInput};
+use vocabulary::{Host, Settings, StreamInput};
 
 // ---- the state
 
@@ -73,7 +73,7 @@ fn few_zeros() -> FewBytes
     [0u8; SHORT / 2]
 }
 
-fn host_at(at: u64, live: Live, offer: Offer) -> Host
+fn host_at(at: u64, live: Option<ConnectionId>, offer: Option<(ConnectionId, StreamId)>) -> Host
     ensures { result ≡ host_of at live offer }
 {
     Host {
@@ -92,8 +92,8 @@ fn up_line(
     sent: &mut FrameBytes,
     ledger: &mut Ledger,
     at: u64,
-    live: Live,
-    offer: Offer,
+    live: Option<ConnectionId>,
+    offer: Option<(ConnectionId, StreamId)>,
     own: Digits,
     peer: PeerId,
     conn: ConnectionId,
@@ -146,8 +146,8 @@ fn input_line(
     ledger: &mut Ledger,
     reply: &mut [u8],
     at: u64,
-    live: Live,
-    offer: Offer,
+    live: Option<ConnectionId>,
+    offer: Option<(ConnectionId, StreamId)>,
     own: Digits,
     stream: StreamId,
     kind: StreamInput,
@@ -206,8 +206,8 @@ fn tick_line(
     sent: &mut FrameBytes,
     ledger: &mut Ledger,
     at: u64,
-    live: Live,
-    offer: Offer,
+    live: Option<ConnectionId>,
+    offer: Option<(ConnectionId, StreamId)>,
     own: Digits,
 ) -> Turn
     requires { length line.now < longest }
@@ -230,22 +230,11 @@ fn tick_line(
 
 // ---- a line
 
-// Whether a line is a call that is refused until a start was accepted.
+// Whether a call is refused until a start was accepted.
 fn needs_start(call: Line) -> bool
-    ensures { result ≡ needs_start call }
+    ensures { result ≡ needs_start (Some call) }
 {
-    match call {
-        Line::Start { .. } => false,
-        Line::Up { .. } => true,
-        Line::Input { .. } => true,
-        Line::Tick { .. } => true,
-        Line::Wrote { .. } => true,
-        Line::Down { .. } => true,
-        Line::Dial { .. } => true,
-        Line::Forget { .. } => true,
-        Line::Attribute { .. } => true,
-        Line::Unknown => false,
-    }
+    !matches!(call, Line::Start { .. })
 }
 
 fn make_call(
@@ -259,8 +248,8 @@ fn make_call(
     call: Line,
 ) -> Turn
     requires { length line.now < longest }
-    ensures turn { turned result connect.new targets.new (tables_of ledger.new) ledger.new sent.new ≡ (call_turn line.now (whole j connect.old targets.old (tables_of ledger.old) ledger.old sent.old) reply.old call).turn }
-    ensures reply { reply.new ≡ (call_turn line.now (whole j connect.old targets.old (tables_of ledger.old) ledger.old sent.old) reply.old call).reply }
+    ensures turn { turned result connect.new targets.new (tables_of ledger.new) ledger.new sent.new ≡ (call_turn line.now (whole j connect.old targets.old (tables_of ledger.old) ledger.old sent.old) reply.old (Some call)).turn }
+    ensures reply { reply.new ≡ (call_turn line.now (whole j connect.old targets.old (tables_of ledger.old) ledger.old sent.old) reply.old (Some call)).reply }
 {
     rows::known(ledger);
     match call {
@@ -269,7 +258,7 @@ fn make_call(
             source,
             relay,
             circuit,
-        } => return journal_calls::start_turn(j, connect, targets, at, source, relay, circuit),
+        } => journal_calls::start_turn(j, connect, targets, at, source, relay, circuit),
         Line::Up {
             at,
             peer,
@@ -279,11 +268,9 @@ fn make_call(
             offer,
             own,
             ..
-        } => {
-            return up_line(
-                line, j, connect, sent, ledger, at, live, offer, own, peer, conn, circuit,
-            );
-        }
+        } => up_line(
+            line, j, connect, sent, ledger, at, live, offer, own, peer, conn, circuit,
+        ),
         Line::Input {
             at,
             stream,
@@ -293,36 +280,31 @@ fn make_call(
             offer,
             pending,
             own,
-        } => {
-            return input_line(
-                line, j, connect, targets, sent, ledger, reply, at, live, offer, own, stream, kind,
-                bytes, pending,
-            );
-        }
+        } => input_line(
+            line, j, connect, targets, sent, ledger, reply, at, live, offer, own, stream, kind,
+            bytes, pending,
+        ),
         Line::Tick {
             at,
             live,
             offer,
             own,
-        } => {
-            return tick_line(line, j, connect, sent, ledger, at, live, offer, own);
-        }
-        Line::Wrote { at, conn, stream } => return journal_calls::wrote_turn(j, at, conn, stream),
-        Line::Down { conn, .. } => return journal_calls::down_turn(j, conn),
+        } => tick_line(line, j, connect, sent, ledger, at, live, offer, own),
+        Line::Wrote { at, conn, stream } => journal_calls::wrote_turn(j, at, conn, stream),
+        Line::Down { conn, .. } => journal_calls::down_turn(j, conn),
         Line::Dial {
             conn,
             token,
             id,
             ..
-        } => return journal_calls::dial_turn(j, ledger, conn, token, id),
-        Line::Forget { conn, .. } => return journal_calls::forget_turn(j, ledger, conn),
+        } => journal_calls::dial_turn(j, ledger, conn, token, id),
+        Line::Forget { conn, .. } => journal_calls::forget_turn(j, ledger, conn),
         Line::Attribute {
             at,
             peer,
             conn,
             circuit,
-        } => return journal_calls::attribute_turn(j, ledger, at, peer, conn, circuit),
-        Line::Unknown => return journal_calls::say(j, Said::Refused(Refusal::UnknownLine)),
+        } => journal_calls::attribute_turn(j, ledger, at, peer, conn, circuit),
     }
 }
 
@@ -334,19 +316,21 @@ fn take_call(
     sent: &mut FrameBytes,
     ledger: &mut Ledger,
     reply: &mut [u8],
-    call: Line,
+    call: Option<Line>,
 ) -> Turn
     requires { length line.now < longest }
     ensures turn { turned result connect.new targets.new (tables_of ledger.new) ledger.new sent.new ≡ (turn_of line.now (whole j connect.old targets.old (tables_of ledger.old) ledger.old sent.old) reply.old call).turn }
     ensures reply { reply.new ≡ (turn_of line.now (whole j connect.old targets.old (tables_of ledger.old) ledger.old sent.old) reply.old call).reply }
 {
-    if needs_start(call) {
-        if j.begun {
-            return make_call(line, j, connect, targets, sent, ledger, reply, call);
-        }
-        return journal_calls::say(j, Said::Refused(Refusal::NotStarted));
+    match call {
+        None => journal_calls::say(j, Said::Refused(Refusal::UnknownLine)),
+        Some(call) if j.begun => make_call(line, j, connect, targets, sent, ledger, reply, call),
+        Some(call) if needs_start(call) => journal_calls::say(
+            j,
+            Said::Refused(Refusal::NotStarted),
+        ),
+        Some(call) => make_call(line, j, connect, targets, sent, ledger, reply, call),
     }
-    make_call(line, j, connect, targets, sent, ledger, reply, call)
 }
 
 // A line behind the first, without its line feed; `ended` is whether it had one.

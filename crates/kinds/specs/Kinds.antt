@@ -1,11 +1,11 @@
 -- What a row's words say (RULES.md, section 10.9). A kind that is none of these is no entry of any table.
 -- ---- the row of an entry: the key, then four numbers, 0 where there is none
-use Rattle.std.specs.Prelude.{ℕ, eqb}
+use Rattle.std.specs.Prelude.{ℕ, eqb, None, Option, Some}
 use Rattle.prelude.specs.Choice.{pick}
 use Rattle.path.specs.declared.Path.{Path}
 use Rattle.path.specs.declared.Path.TheVariants.{Relayed, Punched, Direct}
 use Rattle.path.specs.declared.Owner.{Owner}
-use Rattle.path.specs.declared.Owner.TheVariants.{Attempt, Inbound, None as NoOwner}
+use Rattle.path.specs.declared.Owner.TheVariants.{Attempt, Inbound}
 use Rattle.path.specs.declared.DialPurpose.{DialPurpose}
 use Rattle.path.specs.declared.DialPurpose.TheVariants.{Relay, Punch, Probe, Reserve}
 use Rattle.kinds.specs.declared.Entry.{Entry}
@@ -29,12 +29,12 @@ dial_numbers token (Probe peer) = record { kind = 3; a = token; b = peer.0; c = 
 dial_numbers token (Reserve peer) = record { kind = 4; a = token; b = peer.0; c = 0 }
 
 -- a path: the relay, then the owner
-abbrev pub owned_numbers : ℕ → ℕ → Owner → Numbers
-owned_numbers kind relay NoOwner = record { kind = kind; a = relay; b = 0; c = 0 }
-owned_numbers kind relay Inbound = record { kind = kind; a = relay; b = 1; c = 0 }
-owned_numbers kind relay (Attempt id) = record { kind = kind; a = relay; b = 2; c = id.0 }
+abbrev pub owned_numbers : ℕ → ℕ → Option Owner → Numbers
+owned_numbers kind relay None = record { kind = kind; a = relay; b = 0; c = 0 }
+owned_numbers kind relay (Some Inbound) = record { kind = kind; a = relay; b = 1; c = 0 }
+owned_numbers kind relay (Some (Attempt id)) = record { kind = kind; a = relay; b = 2; c = id.0 }
 
-abbrev pub path_numbers : Path → Owner → Numbers
+abbrev pub path_numbers : Path → Option Owner → Numbers
 path_numbers (Relayed relay) owner = owned_numbers 6 relay.0 owner
 path_numbers Punched owner = owned_numbers 7 0 owner
 path_numbers Direct owner = owned_numbers 8 0 owner
@@ -54,9 +54,9 @@ dialed token purpose = Dialed (record { token = record { 0 = token }; purpose = 
 
 abbrev pub owned : Path → ℕ → ℕ → Entry
 owned path kind id =
-    pick (eqb kind 0) (PathEntry (record { path = path; owner = NoOwner }))
-    (pick (eqb kind 1) (PathEntry (record { path = path; owner = Inbound }))
-    (pick (eqb kind 2) (PathEntry (record { path = path; owner = Attempt (record { 0 = id }) })) Other))
+    pick (eqb kind 0) (PathEntry (record { path = path; owner = None }))
+    (pick (eqb kind 1) (PathEntry (record { path = path; owner = Some Inbound }))
+    (pick (eqb kind 2) (PathEntry (record { path = path; owner = Some (Attempt (record { 0 = id })) })) Other))
 
 unfoldable pub entry_of : Row → Entry
 entry_of r =

@@ -41,7 +41,8 @@ const INBOUND: u64 = 1;
 
 const ATTEMPT: u64 = 2;
 
-// What a row says of its key: a dial or a path of a connection, or the end of a peer's punch window.
+// What a row says of its key: a dial or a path of a connection, or the end of a peer's punch window. `Other` and no `Option`: such a row
+// stands in its table all the same, and is found.
 #[derive(Clone, Copy)]
 pub enum Entry {
     Other,
@@ -53,25 +54,13 @@ pub enum Entry {
 fn owned(path: Path, kind: u64, id: u64) -> Entry
     ensures { result ≡ ownedEntry path kind id }
 {
-    if kind == UNOWNED {
-        return Entry::Path(Attribution {
-            path,
-            owner: Owner::None,
-        });
-    }
-    if kind == INBOUND {
-        return Entry::Path(Attribution {
-            path,
-            owner: Owner::Inbound,
-        });
-    }
-    if kind == ATTEMPT {
-        return Entry::Path(Attribution {
-            path,
-            owner: Owner::Attempt(ConnectId(id)),
-        });
-    }
-    Entry::Other
+    let owner = match kind {
+        UNOWNED => None,
+        INBOUND => Some(Owner::Inbound),
+        ATTEMPT => Some(Owner::Attempt(ConnectId(id))),
+        _ => return Entry::Other,
+    };
+    Entry::Path(Attribution { path, owner })
 }
 
 fn dialed(token: u64, purpose: DialPurpose) -> Entry
@@ -84,41 +73,24 @@ fn dialed(token: u64, purpose: DialPurpose) -> Entry
 }
 
 // What a row says.
+#[tactic(auto, unfolding(crate::specs::Kinds::entry_of))]
 pub fn entry_of(row: Row) -> Entry
     ensures { result ≡ entry_of row }
 {
-    let kind = row.kind;
-    if kind == RELAY {
-        return dialed(row.a, DialPurpose::Relay(ConnectId(row.b), PeerId(row.c)));
+    match row.kind {
+        RELAY => dialed(row.a, DialPurpose::Relay(ConnectId(row.b), PeerId(row.c))),
+        PUNCH => dialed(row.a, DialPurpose::Punch(ConnectId(row.b))),
+        PROBE => dialed(row.a, DialPurpose::Probe(PeerId(row.b))),
+        RESERVE => dialed(row.a, DialPurpose::Reserve(PeerId(row.b))),
+        WINDOW => Entry::Window(row.a),
+        RELAYED => {
+            let relay = PeerId(row.a);
+            owned(Path::Relayed { relay }, row.b, row.c)
+        }
+        PUNCHED => owned(Path::Punched, row.b, row.c),
+        DIRECT => owned(Path::Direct, row.b, row.c),
+        _ => Entry::Other,
     }
-    if kind == PUNCH {
-        return dialed(row.a, DialPurpose::Punch(ConnectId(row.b)));
-    }
-    if kind == PROBE {
-        return dialed(row.a, DialPurpose::Probe(PeerId(row.b)));
-    }
-    if kind == RESERVE {
-        return dialed(row.a, DialPurpose::Reserve(PeerId(row.b)));
-    }
-    if kind == WINDOW {
-        return Entry::Window(row.a);
-    }
-    if kind == RELAYED {
-        return owned(
-            Path::Relayed {
-                relay: PeerId(row.a),
-            },
-            row.b,
-            row.c,
-        );
-    }
-    if kind == PUNCHED {
-        return owned(Path::Punched, row.b, row.c);
-    }
-    if kind == DIRECT {
-        return owned(Path::Direct, row.b, row.c);
-    }
-    Entry::Other
 }
 
 fn dial_row(key: u64, token: u64, purpose: DialPurpose) -> Row
@@ -156,25 +128,25 @@ fn dial_row(key: u64, token: u64, purpose: DialPurpose) -> Row
     }
 }
 
-fn owned_row(key: u64, kind: u64, relay: u64, owner: Owner) -> Row
+fn owned_row(key: u64, kind: u64, relay: u64, owner: Option<Owner>) -> Row
     ensures { result ≡ keyed key (owned_numbers kind relay owner) }
 {
     match owner {
-        Owner::None => Row {
+        None => Row {
             key,
             kind,
             a: relay,
             b: UNOWNED,
             c: 0,
         },
-        Owner::Inbound => Row {
+        Some(Owner::Inbound) => Row {
             key,
             kind,
             a: relay,
             b: INBOUND,
             c: 0,
         },
-        Owner::Attempt(id) => Row {
+        Some(Owner::Attempt(id)) => Row {
             key,
             kind,
             a: relay,
@@ -184,7 +156,7 @@ fn owned_row(key: u64, kind: u64, relay: u64, owner: Owner) -> Row
     }
 }
 
-fn path_row(key: u64, path: Path, owner: Owner) -> Row
+fn path_row(key: u64, path: Path, owner: Option<Owner>) -> Row
     ensures { result ≡ keyed key (path_numbers path owner) }
 {
     match path {
@@ -195,15 +167,12 @@ fn path_row(key: u64, path: Path, owner: Owner) -> Row
 }
 
 // The row that says the entry of the key.
+#[tactic(auto, unfolding(crate::specs::Kinds::numbers_of))]
 pub fn row_of(key: u64, entry: Entry) -> Row
     ensures { result ≡ row_of key entry }
 {
     match entry {
-        Entry::Dialed(dial) => {
-            let token = dial.token;
-            let purpose = dial.purpose;
-            dial_row(key, token.0, purpose)
-        }
+        Entry::Dialed(dial) => dial_row(key, dial.token.0, dial.purpose),
         Entry::Window(until) => Row {
             key,
             kind: WINDOW,
@@ -211,11 +180,7 @@ pub fn row_of(key: u64, entry: Entry) -> Row
             b: 0,
             c: 0,
         },
-        Entry::Path(name) => {
-            let path = name.path;
-            let owner = name.owner;
-            path_row(key, path, owner)
-        }
+        Entry::Path(name) => path_row(key, name.path, name.owner),
         Entry::Other => Row {
             key,
             kind: 0,

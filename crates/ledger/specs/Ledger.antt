@@ -1,7 +1,7 @@
 -- The calls of the ledger (RULES.md, section 10), on the rows of its three tables.
 -- ---- the three tables (section 10.1)
 -- the rows in use
-use Rattle.std.specs.Prelude.{ℕ, Bool, List, [], length, eqb}
+use Rattle.std.specs.Prelude.{ℕ, Bool, List, [], length, eqb, Err, None, Ok, Option, Result, Some, ⊤}
 use Rattle.prelude.specs.Choice.{pick}
 use Rattle.refusal.specs.declared.Refusal.TheVariants.{LedgerFull}
 use Rattle.ids.specs.declared.PeerId.{PeerId}
@@ -11,10 +11,6 @@ use Rattle.ids.specs.declared.NatToken.{NatToken}
 use Rattle.path.specs.declared.Attribution.{Attribution}
 use Rattle.path.specs.declared.DialPurpose.{DialPurpose}
 use Rattle.path.specs.declared.Claim.{Claim}
-use Rattle.path.specs.declared.FoundDial.{FoundDial}
-use Rattle.path.specs.declared.FoundPath.{FoundPath}
-use Rattle.path.specs.declared.FoundPath.TheVariants.{At as PathAt, None as NoPath}
-use Rattle.path.specs.declared.Replaced.{Replaced}
 use Rattle.path.specs.Judged.{judged, upgrade_of, punched_at}
 use Rattle.kinds.specs.declared.Entry.TheVariants.{Dialed, Window, Path as PathEntry}
 use Rattle.kinds.specs.declared.Row.{Row}
@@ -23,19 +19,16 @@ use Rattle.rows.specs.declared.Keep.TheVariants.{Lasting}
 use Rattle.kinds.specs.Kinds.{row_of}
 use Rattle.rows.specs.Rows.{kept, without, inserted, crowded}
 use Rattle.rows.specs.Words.{rows_of}
-use Rattle.vocabulary.specs.declared.Deadline.{Deadline}
 use Rattle.dials.specs.declared.Tokens.{Tokens}
 use Rattle.dials.specs.declared.Connections.{Connections}
 use Rattle.dials.specs.declared.Firsts.{Firsts}
-use Rattle.dials.specs.declared.FirstLive.{FirstLive}
 use Rattle.dials.specs.declared.First.{First}
 use Rattle.dials.specs.Dials.{each, left_of, retired_of, closed_of, tokens_of, connections_of, pairs, with_firsts}
 use Rattle.entries.specs.Entries.{dial_at, path_at, window_open, punch_end, soonest}
-use Rattle.vocabulary.specs.declared.Outcome.{Outcome}
-use Rattle.vocabulary.specs.declared.Outcome.TheVariants.{Accepted, Refused}
-use Rattle.ledger.specs.declared.Answer.{Answer}
-use Rattle.ledger.specs.declared.Answer.TheVariants.{Path as Named, None as Unnamed, Refused as NotNamed}
 use Rattle.rows.specs.Words as words
+use Rattle.path.specs.declared.Dial.{Dial}
+use Rattle.path.specs.declared.Replaced.{Replaced}
+use Rattle.refusal.specs.declared.Refusal.{Refusal}
 
 pub record PathLedger : Type 0 where
   pub dials : List Row
@@ -83,11 +76,11 @@ path_row conn attribution = row_of conn.0 (PathEntry attribution)
 -- ---- what a call leaves, and what it answers
 pub record Recorded : Type 0 where
   pub ledger : PathLedger
-  pub outcome : Outcome
+  pub outcome : Result ⊤ Refusal
 
 pub record Finished : Type 0 where
   pub ledger : PathLedger
-  pub dial : FoundDial
+  pub dial : Option Dial
 
 pub record Aborted : Type 0 where
   pub ledger : PathLedger
@@ -96,16 +89,16 @@ pub record Aborted : Type 0 where
 
 pub record Attributed : Type 0 where
   pub ledger : PathLedger
-  pub answer : Answer
+  pub answer : Result (Option Attribution) Refusal
 
 pub record Forgotten : Type 0 where
   pub ledger : PathLedger
-  pub path : FoundPath
+  pub path : Option Attribution
 
 -- ---- dials (sections 10.2 and 10.4)
 -- the ledger as it was, and number 4, where a 65th row would be needed
 abbrev pub full_or : Bool → PathLedger → PathLedger → Recorded
-full_or full l changed = pick full (record { ledger = l; outcome = Refused LedgerFull }) (record { ledger = changed; outcome = Accepted })
+full_or full l changed = pick full (record { ledger = l; outcome = Err LedgerFull }) (record { ledger = changed; outcome = Ok tt })
 
 unfoldable pub dial_started : PathLedger → ConnectionId → NatToken → DialPurpose → Recorded
 dial_started l conn token purpose = full_or (crowded conn.0 (dials_of l)) l (with_dials l (inserted (dial_row conn token purpose) (dials_of l)))
@@ -124,7 +117,7 @@ aborted l id ps = record {
 unfoldable pub aborted_with : PathLedger → ConnectId → Firsts → Aborted
 aborted_with l id firsts = aborted l id (pairs (dials_of l) firsts.rows)
 
-unfoldable pub aborted_dials : PathLedger → ConnectId → PeerId → (PeerId → FirstLive) → Aborted
+unfoldable pub aborted_dials : PathLedger → ConnectId → PeerId → (PeerId → Option ConnectionId) → Aborted
 aborted_dials l id target first = aborted l id (with_firsts target first (dials_of l))
 
 -- ---- windows (section 10.3)
@@ -141,28 +134,28 @@ end_punches l peer = with_windows l (without peer.0 (windows_of l))
 unfoldable pub ticked : PathLedger → ℕ → PathLedger
 ticked l now = with_windows l (kept (Lasting now) (windows_of l))
 
-unfoldable pub next_deadline : PathLedger → Deadline
+unfoldable pub next_deadline : PathLedger → Option ℕ
 next_deadline l = soonest (windows_of l)
 
 unfoldable pub is_quiet : PathLedger → Bool
 is_quiet l = eqb (length (windows_of l)) 0
 
 -- ---- paths (sections 10.5 and 10.6)
-unfoldable pub judged_by : PathLedger → ConnectionId → PeerId → Bool → Claim → ℕ → FoundPath
+unfoldable pub judged_by : PathLedger → ConnectionId → PeerId → Bool → Option Claim → ℕ → Option Attribution
 judged_by l conn peer circuit claim now = judged circuit (dial_at conn (dials_of l)) claim (window_open peer now (windows_of l))
 
 -- what is judged is recorded; where there is no path no row is needed
-abbrev pub recorded : PathLedger → ConnectionId → FoundPath → Attributed
-recorded l conn NoPath = record { ledger = l; answer = Unnamed }
-recorded l conn (PathAt attribution) =
+abbrev pub recorded : PathLedger → ConnectionId → Option Attribution → Attributed
+recorded l conn None = record { ledger = l; answer = Ok None }
+recorded l conn (Some attribution) =
     pick (crowded conn.0 (paths_of l))
-    (record { ledger = l; answer = NotNamed LedgerFull })
-    (record { ledger = with_paths l (inserted (path_row conn attribution) (paths_of l)); answer = Named attribution })
+    (record { ledger = l; answer = Err LedgerFull })
+    (record { ledger = with_paths l (inserted (path_row conn attribution) (paths_of l)); answer = Ok (Some attribution) })
 
-unfoldable pub attributed : PathLedger → ConnectionId → PeerId → Bool → Claim → ℕ → Attributed
+unfoldable pub attributed : PathLedger → ConnectionId → PeerId → Bool → Option Claim → ℕ → Attributed
 attributed l conn peer circuit claim now = recorded l conn (judged_by l conn peer circuit claim now)
 
-unfoldable pub replaced_by : PathLedger → Attribution → ConnectionId → Replaced
+unfoldable pub replaced_by : PathLedger → Attribution → ConnectionId → Option Replaced
 replaced_by l old new = upgrade_of old (path_at new (paths_of l))
 
 unfoldable pub forgotten : PathLedger → ConnectionId → Forgotten

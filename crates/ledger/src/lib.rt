@@ -9,19 +9,11 @@ ghost use Rattle.ledger.specs.Ledger.{empty_ledger, tables_of, laid, dial_starte
 use dials::{Dropped, Firsts};
 use ids::{ConnectId, ConnectionId, NatToken, PeerId};
 use kinds::Entry;
-use path::{Attribution, Claim, Dial, DialPurpose, FoundDial, FoundPath, Replaced};
+use path::{Attribution, Claim, Dial, DialPurpose, Replaced};
 use refusal::Refusal;
 use rows::{Keep, Table};
-use vocabulary::{Deadline, Outcome};
 
 pub type Ledger = rows::Ledger;
-
-#[derive(Clone, Copy)]
-pub enum Answer {
-    Path(Attribution),
-    None,
-    Refused(Refusal),
-}
 
 // No row in any table.
 pub fn empty() -> Ledger
@@ -37,7 +29,7 @@ pub fn dial_started(
     conn: ConnectionId,
     token: NatToken,
     purpose: DialPurpose,
-) -> Outcome
+) -> Result<(), Refusal>
     ensures answer { result ≡ (dial_started (tables_of l.old) conn token purpose).outcome }
     ensures tables { tables_of l.new ≡ (dial_started (tables_of l.old) conn token purpose).ledger }
     ensures words { l.new ≡ laid (dial_started (tables_of l.old) conn token purpose).ledger l.old }
@@ -45,13 +37,13 @@ pub fn dial_started(
     rows::known(l);
     let dial = Dial { token, purpose };
     if rows::insert(l, Table::Dials, kinds::row_of(conn.0, Entry::Dialed(dial))) {
-        return Outcome::Accepted;
+        return Ok(());
     }
-    Outcome::Refused(Refusal::LedgerFull)
+    Err(Refusal::LedgerFull)
 }
 
 // Ends the dial of a connection (it was established or failed) and hands out its token and purpose.
-pub fn finish_dial(l: &mut Ledger, conn: ConnectionId) -> FoundDial
+pub fn finish_dial(l: &mut Ledger, conn: ConnectionId) -> Option<Dial>
     ensures answer { result ≡ (finish_dial (tables_of l.old) conn).dial }
     ensures tables { tables_of l.new ≡ (finish_dial (tables_of l.old) conn).ledger }
     ensures words { l.new ≡ laid (finish_dial (tables_of l.old) conn).ledger l.old }
@@ -81,7 +73,7 @@ pub fn refuses_punches(l: &Ledger, peer: PeerId) -> bool
 }
 
 // Opens or extends the window in which direct connections of the peer are its punches, until `until` (exclusive).
-pub fn expect_punches(l: &mut Ledger, peer: PeerId, until: u64) -> Outcome
+pub fn expect_punches(l: &mut Ledger, peer: PeerId, until: u64) -> Result<(), Refusal>
     ensures answer { result ≡ (expect_punches (tables_of l.old) peer until).outcome }
     ensures tables { tables_of l.new ≡ (expect_punches (tables_of l.old) peer until).ledger }
     ensures words { l.new ≡ laid (expect_punches (tables_of l.old) peer until).ledger l.old }
@@ -89,9 +81,9 @@ pub fn expect_punches(l: &mut Ledger, peer: PeerId, until: u64) -> Outcome
     rows::known(l);
     let end = entries::punch_end(l, peer, until);
     if rows::insert(l, Table::Windows, kinds::row_of(peer.0, Entry::Window(end))) {
-        return Outcome::Accepted;
+        return Ok(());
     }
-    Outcome::Refused(Refusal::LedgerFull)
+    Err(Refusal::LedgerFull)
 }
 
 // Closes the peer's window before its end.
@@ -109,9 +101,9 @@ fn judge(
     conn: ConnectionId,
     peer: PeerId,
     circuit: bool,
-    claim: Claim,
+    claim: Option<Claim>,
     reading: u64,
-) -> FoundPath
+) -> Option<Attribution>
     ensures { result ≡ judged_by (tables_of l.now) conn peer circuit claim reading }
 {
     let dial = entries::dial_at(l, conn);
@@ -125,37 +117,37 @@ pub fn attribute(
     conn: ConnectionId,
     peer: PeerId,
     circuit: bool,
-    claim: Claim,
+    claim: Option<Claim>,
     reading: u64,
-) -> Answer
+) -> Result<Option<Attribution>, Refusal>
     ensures answer { result ≡ (attributed (tables_of l.old) conn peer circuit claim reading).answer }
     ensures tables { tables_of l.new ≡ (attributed (tables_of l.old) conn peer circuit claim reading).ledger }
     ensures words { l.new ≡ laid (attributed (tables_of l.old) conn peer circuit claim reading).ledger l.old }
 {
     rows::known(l);
     let judgement = judge(l, conn, peer, circuit, claim, reading);
-    let FoundPath::At(attribution) = judgement else {
-        return Answer::None;
+    let Some(attribution) = judgement else {
+        return Ok(None);
     };
     if rows::insert(
         l,
         Table::Paths,
         kinds::row_of(conn.0, Entry::Path(attribution)),
     ) {
-        return Answer::Path(attribution);
+        return Ok(Some(attribution));
     }
-    Answer::Refused(Refusal::LedgerFull)
+    Err(Refusal::LedgerFull)
 }
 
 // The upgrade, if any, that a connection is which takes the place of one that came as `old`.
-pub fn replaced(l: &Ledger, old: Attribution, new: ConnectionId) -> Replaced
+pub fn replaced(l: &Ledger, old: Attribution, new: ConnectionId) -> Option<Replaced>
     ensures { result ≡ replaced_by (tables_of l.now) old new }
 {
     path::upgrade(old, entries::path_at(l, new))
 }
 
 // Forgets a connection (closed or replaced) and its dial, and hands out how it came.
-pub fn forget(l: &mut Ledger, conn: ConnectionId) -> FoundPath
+pub fn forget(l: &mut Ledger, conn: ConnectionId) -> Option<Attribution>
     ensures answer { result ≡ (forgotten (tables_of l.old) conn).path }
     ensures tables { tables_of l.new ≡ (forgotten (tables_of l.old) conn).ledger }
     ensures words { l.new ≡ laid (forgotten (tables_of l.old) conn).ledger l.old }
@@ -184,7 +176,7 @@ pub fn on_tick(l: &mut Ledger, reading: u64)
 }
 
 // When the next window ends.
-pub fn next_deadline(l: &Ledger) -> Deadline
+pub fn next_deadline(l: &Ledger) -> Option<u64>
     ensures { result ≡ next_deadline (tables_of l.now) }
 {
     entries::soonest_end(l)

@@ -2,12 +2,13 @@
 use mathlib.Core.Path.{◌≡◌, refl}
 use Prim.Native.Nat.{ℕ, ◌+◌, ◌*◌, ◌/◌, ◌%◌, ◌^◌}
 use native.Mathlib.Omega.{arith}
+use Rattle.std.specs.Prelude.{None, Option, Some}
 use Rattle.path.specs.declared.DialPurpose.{DialPurpose}
 use Rattle.path.specs.declared.DialPurpose.TheVariants.{Relay, Punch, Probe, Reserve}
 use Rattle.path.specs.declared.Path.{Path}
 use Rattle.path.specs.declared.Path.TheVariants.{Relayed, Punched, Direct}
 use Rattle.path.specs.declared.Owner.{Owner}
-use Rattle.path.specs.declared.Owner.TheVariants.{Attempt, Inbound, None}
+use Rattle.path.specs.declared.Owner.TheVariants.{Attempt, Inbound}
 use Rattle.ledger_calls.specs.Values.{purpose_of, purpose_words, path_of, path_words, owner_of, owner_words}
 use Rattle.ledger_calls.specs.Records.{half, number, octets}
 
@@ -24,10 +25,10 @@ path_back (Relayed relay) = refl
 path_back Punched = refl
 path_back Direct = refl
 
-pub owner_back : (o : Owner) → owner_of (owner_words o).word (owner_words o).id ≡ o
+pub owner_back : (o : Option Owner) → owner_of (owner_words o).word (owner_words o).id ≡ o
 unfolding owner_of owner_words
-owner_back (Attempt id) = refl
-owner_back Inbound = refl
+owner_back (Some (Attempt id)) = refl
+owner_back (Some Inbound) = refl
 owner_back None = refl
 
 -- digits to the base 256, each behind the number of those before it

@@ -1,5 +1,5 @@
 -- Calls of `ledger` (RULES.md, section 10): what each row's call makes of the ledger's words, and what is said of it.
-use Rattle.std.specs.Prelude.{ℕ, ◌+◌, List, [], ◌∷◌, ◌++◌, Bool, length, get_or, replicate, eqb, ltb, leb}
+use Rattle.std.specs.Prelude.{ℕ, ◌+◌, List, [], ◌∷◌, ◌++◌, Bool, length, get_or, replicate, eqb, ltb, leb, Err, None, Ok, Option, Result, Some, ⊤}
 use Rattle.prelude.specs.Choice.{pick}
 use Rattle.text.specs.Words.{ascii}
 use Rattle.text.specs.Printed.{printed}
@@ -8,16 +8,6 @@ use Rattle.ids.specs.declared.ConnectId.{ConnectId}
 use Rattle.ids.specs.declared.ConnectionId.{ConnectionId}
 use Rattle.ids.specs.declared.PeerId.{PeerId}
 use Rattle.path.specs.declared.Attribution.{Attribution}
-use Rattle.path.specs.declared.FoundDial.{FoundDial}
-use Rattle.path.specs.declared.FoundDial.TheVariants as foundDial
-use Rattle.path.specs.declared.FoundPath.{FoundPath}
-use Rattle.path.specs.declared.FoundPath.TheVariants as foundPath
-use Rattle.path.specs.declared.Replaced.{Replaced}
-use Rattle.path.specs.declared.Replaced.TheVariants as replaced
-use Rattle.vocabulary.specs.declared.Deadline.{Deadline}
-use Rattle.vocabulary.specs.declared.Deadline.TheVariants as deadline
-use Rattle.vocabulary.specs.declared.Outcome.{Outcome}
-use Rattle.vocabulary.specs.declared.Outcome.TheVariants as outcome
 use Rattle.kinds.specs.declared.Entry.{Entry}
 use Rattle.kinds.specs.declared.Entry.TheVariants as entry
 use Rattle.kinds.specs.declared.Row.{Row}
@@ -26,14 +16,15 @@ use Rattle.rows.specs.Words.{ledger_words, no_row, rows_of}
 use Rattle.dials.specs.declared.Tokens.{Tokens}
 use Rattle.dials.specs.declared.Connections.{Connections}
 use Rattle.live_dials.specs.First.{first_live}
-use Rattle.ledger.specs.declared.Answer.{Answer}
-use Rattle.ledger.specs.declared.Answer.TheVariants as answer
 use Rattle.ledger.specs.Ledger.{PathLedger, Recorded, Finished, Aborted, Attributed, Forgotten, tables_of, laid, empty_ledger, dial_started, finish_dial, aborted_dials, expect_punches, end_punches, attributed, replaced_by, forgotten, is_punched, ticked, next_deadline, is_quiet}
 use Rattle.call_table.specs.Tables.{call_of, bytes_in, none, says, shows, no_bytes_lem, answer_text}
 use Rattle.call_table.specs.declared.Said.{Said}
 use Rattle.call_table.specs.declared.Call.{Call}
 use Rattle.ledger_calls.specs.Values.{purpose_of, purpose_words, path_of, path_words, owner_of, owner_words, claim_of, table_of}
 use Rattle.ledger_calls.specs.Records.{lives_in, tokens_bytes, connections_bytes}
+use Rattle.path.specs.declared.Dial.{Dial}
+use Rattle.path.specs.declared.Replaced.{Replaced}
+use Rattle.refusal.specs.declared.Refusal.{Refusal}
 
 unfoldable pub ledger_table : List ℕ
 ledger_table =
@@ -57,13 +48,13 @@ ledger_table =
 
 -- ---- what is said of an answer
 
-abbrev pub outcome_said : Outcome → Said
-outcome_said outcome.Accepted = says 1 none
-outcome_said (outcome.Refused why) = says 2 (number_of why ∷ 0 ∷ 0 ∷ 0 ∷ 0 ∷ 0 ∷ [])
+abbrev pub outcome_said : Result ⊤ Refusal → Said
+outcome_said (Ok tt) = says 1 none
+outcome_said (Err why) = says 2 (number_of why ∷ 0 ∷ 0 ∷ 0 ∷ 0 ∷ 0 ∷ [])
 
-abbrev pub dial_said : FoundDial → Said
-dial_said foundDial.None = says 1 none
-dial_said (foundDial.At dial) =
+abbrev pub dial_said : Option Dial → Said
+dial_said None = says 1 none
+dial_said (Some dial) =
     says 2
     (dial.token.0 ∷ (purpose_words dial.purpose).word ∷ (purpose_words dial.purpose).of ∷ (purpose_words dial.purpose).relay ∷ 0 ∷ 0 ∷ [])
 
@@ -72,27 +63,27 @@ name_said name =
     says 2
     ((path_words name.path).word ∷ (path_words name.path).relay ∷ (owner_words name.owner).word ∷ (owner_words name.owner).id ∷ 0 ∷ 0 ∷ [])
 
-abbrev pub answer_said : Answer → Said
-answer_said answer.None = says 1 none
-answer_said (answer.Path name) = name_said name
-answer_said (answer.Refused why) = says 3 (number_of why ∷ 0 ∷ 0 ∷ 0 ∷ 0 ∷ 0 ∷ [])
+abbrev pub answer_said : Result (Option Attribution) Refusal → Said
+answer_said (Ok None) = says 1 none
+answer_said (Ok (Some name)) = name_said name
+answer_said (Err why) = says 3 (number_of why ∷ 0 ∷ 0 ∷ 0 ∷ 0 ∷ 0 ∷ [])
 
-abbrev pub path_said : FoundPath → Said
-path_said foundPath.None = says 1 none
-path_said (foundPath.At name) = name_said name
+abbrev pub path_said : Option Attribution → Said
+path_said None = says 1 none
+path_said (Some name) = name_said name
 
-abbrev pub upgrade_said : Replaced → Said
-upgrade_said replaced.None = says 1 none
-upgrade_said (replaced.Upgrade owner from to) =
+abbrev pub upgrade_said : Option Replaced → Said
+upgrade_said None = says 1 none
+upgrade_said (Some u) =
     says 2
-    ((owner_words owner).word ∷ (owner_words owner).id ∷ (path_words from).word ∷ (path_words from).relay ∷ (path_words to).word ∷ (path_words to).relay ∷ [])
+    ((owner_words u.owner).word ∷ (owner_words u.owner).id ∷ (path_words u.from).word ∷ (path_words u.from).relay ∷ (path_words u.to).word ∷ (path_words u.to).relay ∷ [])
 
 abbrev pub yes_said : Bool → Said
 yes_said holds = pick holds (says 1 none) (says 2 none)
 
-abbrev pub deadline_said : Deadline → Said
-deadline_said deadline.None = says 1 none
-deadline_said (deadline.At end) = says 2 (end ∷ 0 ∷ 0 ∷ 0 ∷ 0 ∷ 0 ∷ [])
+abbrev pub deadline_said : Option ℕ → Said
+deadline_said None = says 1 none
+deadline_said (Some end) = says 2 (end ∷ 0 ∷ 0 ∷ 0 ∷ 0 ∷ 0 ∷ [])
 
 -- a row by its key and what it says; one of an unknown kind by its key alone
 abbrev pub entry_said : ℕ → Entry → Said

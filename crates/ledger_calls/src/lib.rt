@@ -1,7 +1,7 @@
 // Calls of `ledger`, on a lent ledger, for the test program: a table of forms, and what each of its calls does and answers.
 #![tactic(auto)]
 
-ghost use Rattle.std.specs.Prelude.{◌≡◌, ℕ, ◌≤◌, take};
+ghost use Rattle.std.specs.Prelude.{◌≡◌, ℕ, ◌≤◌, take, Option};
 ghost use Rattle.text.specs.Printed.{printed, behind};
 ghost use Rattle.rows.specs.Words.{rows_of};
 ghost use Rattle.ledger.specs.Ledger.{tables_of};
@@ -18,36 +18,36 @@ use call_table::{Answered, Said};
 use dials::{Connections, Firsts, Tokens};
 use ids::{ConnectId, ConnectionId, NatToken, PeerId};
 use kinds::Entry;
-use ledger::{Answer, Ledger};
+use ledger::Ledger;
 use live_dials::{Asked, Live};
-use path::{Attribution, FoundDial, FoundPath, Replaced};
+use path::{Attribution, Dial, Replaced};
 use records::RECORDS;
+use refusal::Refusal;
 use rows::Table;
-use vocabulary::{Deadline, Outcome};
 
 pub mod records;
 pub mod values;
 
 // ---- what is said of an answer
 
-fn outcome_said(outcome: Outcome) -> Said
+fn outcome_said(outcome: Result<(), Refusal>) -> Said
     ensures { result ≡ outcome_said outcome }
 {
     match outcome {
-        Outcome::Accepted => call_table::say(1, [0; 6]),
-        Outcome::Refused(why) => {
+        Ok(()) => call_table::say(1, [0; 6]),
+        Err(why) => {
             let n = why.number();
             call_table::say(2, [n, 0, 0, 0, 0, 0])
         }
     }
 }
 
-fn dial_said(found: FoundDial) -> Said
+fn dial_said(found: Option<Dial>) -> Said
     ensures { result ≡ dial_said found }
 {
     match found {
-        FoundDial::None => call_table::say(1, [0; 6]),
-        FoundDial::At(dial) => {
+        None => call_table::say(1, [0; 6]),
+        Some(dial) => {
             let token = dial.token;
             let purpose = dial.purpose;
             let p = values::purpose_words(purpose);
@@ -66,34 +66,34 @@ fn name_said(name: Attribution) -> Said
     call_table::say(2, [p.word, p.relay, o.word, o.id, 0, 0])
 }
 
-fn answer_said(answer: Answer) -> Said
+fn answer_said(answer: Result<Option<Attribution>, Refusal>) -> Said
     ensures { result ≡ answer_said answer }
 {
     match answer {
-        Answer::None => call_table::say(1, [0; 6]),
-        Answer::Path(name) => name_said(name),
-        Answer::Refused(why) => {
+        Ok(None) => call_table::say(1, [0; 6]),
+        Ok(Some(name)) => name_said(name),
+        Err(why) => {
             let n = why.number();
             call_table::say(3, [n, 0, 0, 0, 0, 0])
         }
     }
 }
 
-fn path_said(found: FoundPath) -> Said
+fn path_said(found: Option<Attribution>) -> Said
     ensures { result ≡ path_said found }
 {
     match found {
-        FoundPath::None => call_table::say(1, [0; 6]),
-        FoundPath::At(name) => name_said(name),
+        None => call_table::say(1, [0; 6]),
+        Some(name) => name_said(name),
     }
 }
 
-fn upgrade_said(replaced: Replaced) -> Said
+fn upgrade_said(replaced: Option<Replaced>) -> Said
     ensures { result ≡ upgrade_said replaced }
 {
     match replaced {
-        Replaced::None => call_table::say(1, [0; 6]),
-        Replaced::Upgrade { owner, from, to } => {
+        None => call_table::say(1, [0; 6]),
+        Some(Replaced { owner, from, to }) => {
             let o = values::owner_words(owner);
             let f = values::path_words(from);
             let t = values::path_words(to);
@@ -111,12 +111,12 @@ fn yes_said(yes: bool) -> Said
     call_table::say(2, [0; 6])
 }
 
-fn deadline_said(deadline: Deadline) -> Said
+fn deadline_said(deadline: Option<u64>) -> Said
     ensures { result ≡ deadline_said deadline }
 {
     match deadline {
-        Deadline::None => call_table::say(1, [0; 6]),
-        Deadline::At(end) => call_table::say(2, [end, 0, 0, 0, 0, 0]),
+        None => call_table::say(1, [0; 6]),
+        Some(end) => call_table::say(2, [end, 0, 0, 0, 0, 0]),
     }
 }
 
@@ -142,6 +142,7 @@ fn entry_said(key: u64, entry: Entry) -> Said
     }
 }
 
+#[tactic(auto, unfolding(crate::specs::Calls::row_said))]
 fn row_said(l: &Ledger, table: Table, place: u64) -> Said
     ensures { result ≡ row_said (rows_of table l.now) place }
 {
@@ -235,6 +236,7 @@ fn change(l: &mut Ledger, row: usize, w: [u64; 8]) -> Said
 }
 
 // The rows behind the abort's, which change nothing.
+#[tactic(auto, unfolding(crate::specs::Calls::look_said))]
 fn look(l: &Ledger, row: usize, w: [u64; 8]) -> Said
     ensures { result ≡ look_said l.now row w }
 {
@@ -328,6 +330,6 @@ do=row table=(dials/windows/paths) place=#|none|conn=# token=# purpose=(relay/pu
 pub fn read_back()
     ensures purposes { (p : DialPurpose) → purpose_of (purpose_words p).word (purpose_words p).of (purpose_words p).relay ≡ p }
     ensures paths { (p : Path) → path_of (path_words p).word (path_words p).relay ≡ p }
-    ensures owners { (o : Owner) → owner_of (owner_words o).word (owner_words o).id ≡ o }
+    ensures owners { (o : Option Owner) → owner_of (owner_words o).word (owner_words o).id ≡ o }
     ensures numbers { (v : ℕ) → number (octets v) 0 ≡ v }
 {}

@@ -18,6 +18,7 @@ fn more(v: u64, b: u8) -> u64
     v * 256 + b as u64
 }
 
+#[tactic(auto, unfolding(crate::specs::Records::half))]
 fn half_at(s: &[u8], at: usize) -> u64
     requires { at + 4 ≤ length s.now }
     ensures { (result ≡ half s.now at) × (result < 2 ^ 32) }
@@ -69,12 +70,9 @@ pub fn read_lives(s: &[u8]) -> Lives
         connection: ConnectionId(0),
     };
     let mut rows = [none; RECORDS];
-    let n = text::least(s.len() / 16, RECORDS);
-    let mut k: usize = 0;
-    while k < n {
-        let live = live_at(s, 16 * k);
-        rows[k] = live;
-        k += 1;
+    let n = (s.len() / 16).min(RECORDS);
+    for k in 0..n {
+        rows[k] = live_at(s, 16 * k);
     }
     Lives { rows, n }
 }
@@ -83,6 +81,7 @@ pub fn read_lives(s: &[u8]) -> Lives
 
 type Eight = [u8; 8];
 
+#[tactic(auto, unfolding(crate::specs::Records::octets))]
 fn octets(v: u64) -> Eight
     ensures { result ≡ octets v }
 {
@@ -98,6 +97,7 @@ fn octets(v: u64) -> Eight
     ]
 }
 
+#[tactic(auto, unfolding(text::specs::Printed::printed, crate::specs::Records::octets, text::specs::Printed::behind))]
 fn put_number(v: u64, out: &mut [u8], at: usize) -> usize
     ensures bytes { out.new ≡ printed out.old at (octets v) }
     ensures place { result ≡ behind out.old at (octets v) }
@@ -110,13 +110,10 @@ pub fn put_tokens(list: Tokens, out: &mut [u8], at: usize) -> usize
     ensures bytes { out.new ≡ printed out.old at (tokens_bytes list) }
     ensures place { result ≡ behind out.old at (tokens_bytes list) }
 {
-    let n = text::least(list.count as usize, ROWS);
+    let n = (list.count as usize).min(ROWS);
     let mut p = at;
-    let mut i: usize = 0;
-    while i < n {
-        let token = list.tokens[i];
-        p = put_number(token.0, out, p);
-        i += 1;
+    for i in 0..n {
+        p = put_number(list.tokens[i].0, out, p);
     }
     p
 }
@@ -125,13 +122,10 @@ pub fn put_connections(list: Connections, out: &mut [u8], at: usize) -> usize
     ensures bytes { out.new ≡ printed out.old at (connections_bytes list) }
     ensures place { result ≡ behind out.old at (connections_bytes list) }
 {
-    let n = text::least(list.count as usize, ROWS);
+    let n = (list.count as usize).min(ROWS);
     let mut p = at;
-    let mut i: usize = 0;
-    while i < n {
-        let conn = list.connections[i];
-        p = put_number(conn.0, out, p);
-        i += 1;
+    for i in 0..n {
+        p = put_number(list.connections[i].0, out, p);
     }
     p
 }

@@ -8,6 +8,7 @@ use rows::Table;
 
 // ---- why a connection is dialed
 
+#[tactic(auto, unfolding(crate::specs::Values::purpose_of))]
 pub fn purpose_of(word: u64, of: u64, relay: u64) -> DialPurpose
     ensures { result ≡ purpose_of word of relay }
 {
@@ -30,6 +31,7 @@ pub struct PurposeWords {
     pub relay: u64,
 }
 
+#[tactic(auto, unfolding(crate::specs::Values::purpose_words))]
 pub fn purpose_words(purpose: DialPurpose) -> PurposeWords
     ensures { result ≡ purpose_words purpose }
 {
@@ -59,6 +61,7 @@ pub fn purpose_words(purpose: DialPurpose) -> PurposeWords
 
 // ---- by which path a connection came
 
+#[tactic(auto, unfolding(crate::specs::Values::path_of))]
 pub fn path_of(word: u64, relay: u64) -> Path
     ensures { result ≡ path_of word relay }
 {
@@ -79,6 +82,7 @@ pub struct PathWords {
     pub relay: u64,
 }
 
+#[tactic(auto, unfolding(crate::specs::Values::path_words))]
 pub fn path_words(path: Path) -> PathWords
     ensures { result ≡ path_words path }
 {
@@ -94,16 +98,17 @@ pub fn path_words(path: Path) -> PathWords
 
 // ---- whose it is
 
-pub fn owner_of(word: u64, id: u64) -> Owner
+#[tactic(auto, unfolding(crate::specs::Values::owner_of))]
+pub fn owner_of(word: u64, id: u64) -> Option<Owner>
     ensures { result ≡ owner_of word id }
 {
     if word == 0 {
-        return Owner::None;
+        return None;
     }
     if word == 1 {
-        return Owner::Inbound;
+        return Some(Owner::Inbound);
     }
-    Owner::Attempt(ConnectId(id))
+    Some(Owner::Attempt(ConnectId(id)))
 }
 
 #[derive(Clone, Copy)]
@@ -112,41 +117,44 @@ pub struct OwnerWords {
     pub id: u64,
 }
 
-pub fn owner_words(owner: Owner) -> OwnerWords
+#[tactic(auto, unfolding(crate::specs::Values::owner_words))]
+pub fn owner_words(owner: Option<Owner>) -> OwnerWords
     ensures { result ≡ owner_words owner }
 {
     match owner {
-        Owner::None => OwnerWords { word: 0, id: 0 },
-        Owner::Inbound => OwnerWords { word: 1, id: 0 },
-        Owner::Attempt(id) => OwnerWords { word: 2, id: id.0 },
+        None => OwnerWords { word: 0, id: 0 },
+        Some(Owner::Inbound) => OwnerWords { word: 1, id: 0 },
+        Some(Owner::Attempt(id)) => OwnerWords { word: 2, id: id.0 },
     }
 }
 
 // ---- what a machine claims: nothing, a direct connection, or a circuit, as inbound or as an attempt
 
-pub fn claim_of(word: u64, relay: u64, id: u64) -> Claim
+#[tactic(auto, unfolding(crate::specs::Values::claim_of))]
+pub fn claim_of(word: u64, relay: u64, id: u64) -> Option<Claim>
     ensures { result ≡ claim_of word relay id }
 {
     if word == 0 {
-        return Claim::None;
+        return None;
     }
     if word == 1 {
-        return Claim::Direct(ConnectId(id));
+        return Some(Claim::Direct(ConnectId(id)));
     }
     if word == 2 {
-        return Claim::Circuit {
+        return Some(Claim::Circuit {
             relay: PeerId(relay),
-            owner: Owner::Inbound,
-        };
+            owner: Some(Owner::Inbound),
+        });
     }
-    Claim::Circuit {
+    Some(Claim::Circuit {
         relay: PeerId(relay),
-        owner: Owner::Attempt(ConnectId(id)),
-    }
+        owner: Some(Owner::Attempt(ConnectId(id))),
+    })
 }
 
 // ---- tables
 
+#[tactic(auto, unfolding(crate::specs::Values::table_of))]
 pub fn table_of(word: u64) -> Table
     ensures { result ≡ table_of word }
 {

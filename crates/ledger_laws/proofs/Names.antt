@@ -7,6 +7,7 @@ use mathlib.Core.List.{List, [], ◌∷◌}
 use native.Mathlib.Omega.{arith}
 use borrow.Author.Tests.{eqb-false}
 use lib.Dec.{eqb}
+use Rattle.std.specs.Prelude.{Err, None, Ok, Option, Result, Some}
 use Rattle.prelude.specs.Lists.{such}
 use Rattle.prelude.specs.Choice.{pick, both, no}
 use Rattle.ids.specs.declared.PeerId.{PeerId}
@@ -16,12 +17,8 @@ use Rattle.path.specs.declared.Attribution.{Attribution}
 use Rattle.path.specs.declared.Path.TheVariants.{Relayed}
 use Rattle.path.specs.declared.DialPurpose.{DialPurpose}
 use Rattle.path.specs.declared.DialPurpose.TheVariants.{Relay, Punch, Probe, Reserve}
-use Rattle.path.specs.declared.FoundDial.{FoundDial}
-use Rattle.path.specs.declared.FoundDial.TheVariants.{At as DialAt, None as NoDial}
-use Rattle.path.specs.declared.FoundPath.{FoundPath}
-use Rattle.path.specs.declared.FoundPath.TheVariants.{At as PathAt, None as NoPath}
 use Rattle.path.specs.declared.Claim.{Claim}
-use Rattle.path.specs.declared.Claim.TheVariants.{Circuit, Direct as DirectClaim, None as NoClaim}
+use Rattle.path.specs.declared.Claim.TheVariants.{Circuit, Direct as DirectClaim}
 use Rattle.path.specs.Judged.{judged, circuit_path, direct_path, by_purpose, by_dial, by_claim, by_window as windowPath, unowned}
 use Rattle.kinds.specs.declared.Entry.TheVariants.{Path as PathEntry}
 use Rattle.kinds.specs.declared.Row.{Row}
@@ -32,72 +29,70 @@ use Rattle.rows.proofs.Laws.{find_entered, find_inserted_other, find_without, fi
 use Rattle.entries.specs.Entries.{path_of, path_at, dial_at, end_of, end_at, window_open, punch_end, lasts, read_as}
 use Rattle.ledger.specs.Ledger.{PathLedger, Attributed, dials_of, windows_of, paths_of, with_windows, with_paths, path_row, window_row, judged_by, recorded, full_or, refuses_punches, dial_started, finish_dial, aborted_dials, expect_punches, end_punches, ticked, attributed, forgotten}
 use Rattle.refusal.specs.declared.Refusal.TheVariants.{LedgerFull}
-use Rattle.rows.specs.declared.Found.TheVariants.{Nothing}
-use Rattle.vocabulary.specs.declared.Deadline.TheVariants.{None as NoEnd}
-use Rattle.ledger.specs.declared.Answer.{Answer}
-use Rattle.ledger.specs.declared.Answer.TheVariants.{Path as Named, Refused as NotNamed}
 use Rattle.ledger_laws.specs.Calls.{Call, after, after_all}
 use Rattle.ledger_laws.specs.Calls.Call.{dial_start, dial_finish, dials_abort, punches_expect, punches_end, tick, attribute, forget}
 use Rattle.ledger_laws.specs.Laws.{PunchDial, Why, spares, spares_all, In}
 use Rattle.ledger_laws.specs.Laws.In.{here, there}
 use Rattle.ledger_laws.specs.Laws.Why.{relayed, by_punch_dial, by_attempt, by_window, otherwise}
+use Rattle.path.specs.declared.Dial.{Dial}
+use Rattle.refusal.specs.declared.Refusal.{Refusal}
 
-unpunched_path : (dial : FoundDial) (claim : Claim) (lasting : Bool) → ((i : ConnectId) → PunchDial i dial → ⊥) → Why false dial claim lasting (by_claim claim (windowPath lasting unowned))
+unpunched_path : (dial : Option Dial) (claim : Option Claim) (lasting : Bool) → ((i : ConnectId) → PunchDial i dial → ⊥) → Why false dial claim lasting (by_claim claim (windowPath lasting unowned))
 unfolding by_claim windowPath
-unpunched_path dial (DirectClaim id) lasting n = by_attempt refl n refl
-unpunched_path dial (Circuit relay owner) true n = by_window refl n (λ i e. let z : ◌≡◌ {A = ℕ} 0 1 = cc in omega arith) refl
-unpunched_path dial (Circuit relay owner) false n = otherwise refl n (λ i e. let z : ◌≡◌ {A = ℕ} 0 1 = cc in omega arith) refl
-unpunched_path dial NoClaim true n = by_window refl n (λ i e. let z : ◌≡◌ {A = ℕ} 0 1 = cc in omega arith) refl
-unpunched_path dial NoClaim false n = otherwise refl n (λ i e. let z : ◌≡◌ {A = ℕ} 0 1 = cc in omega arith) refl
+unpunched_path dial (Some (DirectClaim id)) lasting n = by_attempt refl n refl
+unpunched_path dial (Some (Circuit relay owner)) true n = by_window refl n (λ i e. let z : ◌≡◌ {A = ℕ} 0 1 = cc in omega arith) refl
+unpunched_path dial (Some (Circuit relay owner)) false n = otherwise refl n (λ i e. let z : ◌≡◌ {A = ℕ} 0 1 = cc in omega arith) refl
+unpunched_path dial None true n = by_window refl n (λ i e. let z : ◌≡◌ {A = ℕ} 0 1 = cc in omega arith) refl
+unpunched_path dial None false n = otherwise refl n (λ i e. let z : ◌≡◌ {A = ℕ} 0 1 = cc in omega arith) refl
 
-direct_why : (dial : FoundDial) (claim : Claim) (lasting : Bool) → Why false dial claim lasting (direct_path dial claim lasting)
+direct_why : (dial : Option Dial) (claim : Option Claim) (lasting : Bool) → Why false dial claim lasting (direct_path dial claim lasting)
 unfolding direct_path by_dial
-direct_why NoDial claim lasting = unpunched_path NoDial claim lasting (λ i p. p)
-direct_why (DialAt dial) claim lasting = go dial.purpose refl
+direct_why None claim lasting = unpunched_path None claim lasting (λ i p. p)
+direct_why (Some dial) claim lasting = go dial.purpose refl
   where
-    go : (p : DialPurpose) → dial.purpose ≡ p → Why false (DialAt dial) claim lasting (by_purpose p (by_claim claim (windowPath lasting unowned)))
+    go : (p : DialPurpose) → dial.purpose ≡ p → Why false (Some dial) claim lasting (by_purpose p (by_claim claim (windowPath lasting unowned)))
     go (Punch id) e = by_punch_dial refl e
-    go (Relay id relay) e = unpunched_path (DialAt dial) claim lasting (λ i q. let z : ◌≡◌ {A = ℕ} 0 1 = cc in omega arith)
-    go (Probe peer) e = unpunched_path (DialAt dial) claim lasting (λ i q. let z : ◌≡◌ {A = ℕ} 0 1 = cc in omega arith)
-    go (Reserve peer) e = unpunched_path (DialAt dial) claim lasting (λ i q. let z : ◌≡◌ {A = ℕ} 0 1 = cc in omega arith)
+    go (Relay id relay) e = unpunched_path (Some dial) claim lasting (λ i q. let z : ◌≡◌ {A = ℕ} 0 1 = cc in omega arith)
+    go (Probe peer) e = unpunched_path (Some dial) claim lasting (λ i q. let z : ◌≡◌ {A = ℕ} 0 1 = cc in omega arith)
+    go (Reserve peer) e = unpunched_path (Some dial) claim lasting (λ i q. let z : ◌≡◌ {A = ℕ} 0 1 = cc in omega arith)
 
-why : (circuit : Bool) (dial : FoundDial) (claim : Claim) (lasting : Bool) (a : Attribution) → judged circuit dial claim lasting ≡ PathAt a → Why circuit dial claim lasting a
+why : (circuit : Bool) (dial : Option Dial) (claim : Option Claim) (lasting : Bool) (a : Attribution) → judged circuit dial claim lasting ≡ Some a → Why circuit dial claim lasting a
 unfolding judged circuit_path
-why true dial (Circuit relay owner) lasting a e = let q : record { path = Relayed relay; owner = owner } ≡ a = cc in subst (Why true dial (Circuit relay owner) lasting) q (relayed refl refl)
-why true dial (DirectClaim id) lasting a e = let z : ◌≡◌ {A = ℕ} 0 1 = cc in absurd (omega arith)
-why true dial NoClaim lasting a e = let z : ◌≡◌ {A = ℕ} 0 1 = cc in absurd (omega arith)
+why true dial (Some (Circuit relay owner)) lasting a e = let q : record { path = Relayed relay; owner = owner } ≡ a = cc in subst (Why true dial (Some (Circuit relay owner)) lasting) q (relayed refl refl)
+why true dial (Some (DirectClaim id)) lasting a e = let z : ◌≡◌ {A = ℕ} 0 1 = cc in absurd (omega arith)
+why true dial None lasting a e = let z : ◌≡◌ {A = ℕ} 0 1 = cc in absurd (omega arith)
 why false dial claim lasting a e = let q : direct_path dial claim lasting ≡ a = cc in subst (Why false dial claim lasting) q (direct_why dial claim lasting)
 
 -- ---- the row that is left
-path_inserted : (conn : ConnectionId) (a : Attribution) (rs : List Row) → crowded conn.0 rs ≡ false → path_at conn (inserted (path_row conn a) rs) ≡ PathAt a
+path_inserted : (conn : ConnectionId) (a : Attribution) (rs : List Row) → crowded conn.0 rs ≡ false → path_at conn (inserted (path_row conn a) rs) ≡ Some a
 unfolding path_at path_of
 path_inserted conn a rs e = simp (find_entered conn.0 (PathEntry a) rs)
 
-recorded_row : (l : PathLedger) (conn : ConnectionId) (found : FoundPath) (a : Attribution) → (recorded l conn found).answer ≡ Named a → path_at conn (paths_of (recorded l conn found).ledger) ≡ PathAt a
-recorded_row l conn NoPath a e = let z : ◌≡◌ {A = ℕ} 0 1 = cc in absurd (omega arith)
-recorded_row l conn (PathAt b) a e = go (crowded conn.0 (paths_of l)) refl e
+recorded_row : (l : PathLedger) (conn : ConnectionId) (found : Option Attribution) (a : Attribution) → (recorded l conn found).answer ≡ Ok (Some a) → path_at conn (paths_of (recorded l conn found).ledger) ≡ Some a
+recorded_row l conn None a e = let z : ◌≡◌ {A = ℕ} 0 1 = cc in absurd (omega arith)
+recorded_row l conn (Some b) a e = go (crowded conn.0 (paths_of l)) refl e
   where
     go : (full : Bool) → crowded conn.0 (paths_of l) ≡ full
-        → (pick {A = Attributed} full (record { ledger = l; answer = NotNamed LedgerFull }) (record { ledger = with_paths l (inserted (path_row conn b) (paths_of l)); answer = Named b })).answer ≡ Named a
-        → path_at conn (paths_of (pick {A = Attributed} full (record { ledger = l; answer = NotNamed LedgerFull }) (record { ledger = with_paths l (inserted (path_row conn b) (paths_of l)); answer = Named b })).ledger) ≡ PathAt a
+        → (pick {A = Attributed} full (record { ledger = l; answer = Err LedgerFull }) (record { ledger = with_paths l (inserted (path_row conn b) (paths_of l)); answer = Ok (Some b) })).answer ≡ Ok (Some a)
+        → path_at conn (paths_of (pick {A = Attributed} full (record { ledger = l; answer = Err LedgerFull }) (record { ledger = with_paths l (inserted (path_row conn b) (paths_of l)); answer = Ok (Some b) })).ledger) ≡ Some a
     go true f q = let z : ◌≡◌ {A = ℕ} 0 1 = cc in absurd (omega arith)
-    go false f q = let r : b ≡ a = cc in path_inserted conn b (paths_of l) f ∙ ap PathAt r
+    go false f q = let r : b ≡ a = cc in path_inserted conn b (paths_of l) f ∙ ap Some r
 
-pub row_says : (l : PathLedger) (conn : ConnectionId) (peer : PeerId) (circuit : Bool) (claim : Claim) (now : ℕ) (a : Attribution)
-    → (attributed l conn peer circuit claim now).answer ≡ Named a → path_at conn (paths_of (attributed l conn peer circuit claim now).ledger) ≡ PathAt a
+pub row_says : (l : PathLedger) (conn : ConnectionId) (peer : PeerId) (circuit : Bool) (claim : Option Claim) (now : ℕ) (a : Attribution)
+    → (attributed l conn peer circuit claim now).answer ≡ Ok (Some a) → path_at conn (paths_of (attributed l conn peer circuit claim now).ledger) ≡ Some a
 unfolding attributed
 row_says l conn peer circuit claim now a e = recorded_row l conn (judged_by l conn peer circuit claim now) a e
 
-named_is : (l : PathLedger) (conn : ConnectionId) (found : FoundPath) (a : Attribution) → (recorded l conn found).answer ≡ Named a → found ≡ PathAt a
-named_is l conn NoPath a e = let z : ◌≡◌ {A = ℕ} 0 1 = cc in absurd (omega arith)
-named_is l conn (PathAt b) a e = go (crowded conn.0 (paths_of l)) e
+named_is : (l : PathLedger) (conn : ConnectionId) (found : Option Attribution) (a : Attribution) → (recorded l conn found).answer ≡ Ok (Some a) → found ≡ Some a
+named_is l conn None a e = let z : ◌≡◌ {A = ℕ} 0 1 = cc in absurd (omega arith)
+named_is l conn (Some b) a e = go (crowded conn.0 (paths_of l)) e
   where
-    go : (full : Bool) → (pick {A = Attributed} full (record { ledger = l; answer = NotNamed LedgerFull }) (record { ledger = with_paths l (inserted (path_row conn b) (paths_of l)); answer = Named b })).answer ≡ Named a → PathAt b ≡ PathAt a
+    go : (full : Bool) → (pick {A = Attributed} full (record { ledger = l; answer = Err LedgerFull }) (record { ledger = with_paths l (inserted (path_row conn b) (paths_of l)); answer = Ok (Some b) })).answer ≡ Ok (Some a) → Some b ≡ Some a
     go true q = let z : ◌≡◌ {A = ℕ} 0 1 = cc in absurd (omega arith)
-    go false q = let r : b ≡ a = cc in ap PathAt r
+    go false q = let r : b ≡ a = cc in ap Some r
 
-pub one_of_five : (l : PathLedger) (conn : ConnectionId) (peer : PeerId) (circuit : Bool) (claim : Claim) (now : ℕ) (a : Attribution)
-    → (attributed l conn peer circuit claim now).answer ≡ Named a → Why circuit (dial_at conn (dials_of l)) claim (window_open peer now (windows_of l)) a
+pub one_of_five : (l : PathLedger) (conn : ConnectionId) (peer : PeerId) (circuit : Bool) (claim : Option Claim) (now : ℕ) (a : Attribution)
+    → (attributed l conn peer circuit claim now).answer ≡ Ok (Some a) → Why circuit (dial_at conn (dials_of l)) claim (window_open peer now (windows_of l)) a
 unfolding attributed judged_by
 one_of_five l conn peer circuit claim now a e =
     why circuit (dial_at conn (dials_of l)) claim (window_open peer now (windows_of l)) a (named_is l conn (judged circuit (dial_at conn (dials_of l)) claim (window_open peer now (windows_of l))) a e)
@@ -108,12 +103,12 @@ path_elsewhere : (conn other : ConnectionId) (a : Attribution) → (conn.0 ≡ o
 unfolding path_at
 path_elsewhere conn other a n rs e = simp (find_inserted_other conn.0 (path_row other a) n rs)
 
-named_elsewhere : (l : PathLedger) (conn other : ConnectionId) → (conn.0 ≡ other.0 → ⊥) → (found : FoundPath) → path_at conn (paths_of (recorded l other found).ledger) ≡ path_at conn (paths_of l)
-named_elsewhere l conn other n NoPath = refl
-named_elsewhere l conn other n (PathAt a) = go (crowded other.0 (paths_of l)) refl
+named_elsewhere : (l : PathLedger) (conn other : ConnectionId) → (conn.0 ≡ other.0 → ⊥) → (found : Option Attribution) → path_at conn (paths_of (recorded l other found).ledger) ≡ path_at conn (paths_of l)
+named_elsewhere l conn other n None = refl
+named_elsewhere l conn other n (Some a) = go (crowded other.0 (paths_of l)) refl
   where
     go : (full : Bool) → crowded other.0 (paths_of l) ≡ full
-        → path_at conn (paths_of (pick {A = Attributed} full (record { ledger = l; answer = NotNamed LedgerFull }) (record { ledger = with_paths l (inserted (path_row other a) (paths_of l)); answer = Named a })).ledger) ≡ path_at conn (paths_of l)
+        → path_at conn (paths_of (pick {A = Attributed} full (record { ledger = l; answer = Err LedgerFull }) (record { ledger = with_paths l (inserted (path_row other a) (paths_of l)); answer = Ok (Some a) })).ledger) ≡ path_at conn (paths_of l)
     go true f = refl
     go false f = path_elsewhere conn other a n (paths_of l) f
 
@@ -146,7 +141,7 @@ name_kept l conn (forget other) s = forgotten_elsewhere conn other (not_same con
 
 -- ---- nothing is left
 pub nothing_left : (l : PathLedger) (conn : ConnectionId)
-    → (find_in conn.0 (dials_of (forgotten l conn).ledger) ≡ Nothing) × (find_in conn.0 (paths_of (forgotten l conn).ledger) ≡ Nothing)
+    → (find_in conn.0 (dials_of (forgotten l conn).ledger) ≡ None) × (find_in conn.0 (paths_of (forgotten l conn).ledger) ≡ None)
 unfolding forgotten
 nothing_left l conn = (
   find_without conn.0 (dials_of l),
@@ -162,7 +157,7 @@ window_elsewhere l peer other n until now = go (crowded other.0 (windows_of l)) 
     row = window_row other (punch_end other until (windows_of l))
 
     go : (full : Bool) → crowded other.0 (windows_of l) ≡ full
-        → lasts now (read_as end_of NoEnd (find_in peer.0 (windows_of (full_or full l (with_windows l (inserted row (windows_of l)))).ledger))) ≡ lasts now (read_as end_of NoEnd (find_in peer.0 (windows_of l)))
+        → lasts now (read_as end_of None (find_in peer.0 (windows_of (full_or full l (with_windows l (inserted row (windows_of l)))).ledger))) ≡ lasts now (read_as end_of None (find_in peer.0 (windows_of l)))
     go true f = refl
     go false f = simp (find_inserted_other peer.0 row n (windows_of l))
 
@@ -174,20 +169,20 @@ full_paths : (full : Bool) (l changed : PathLedger) → paths_of changed ≡ pat
 full_paths true l changed e = refl
 full_paths false l changed e = e
 
-answer_by : Bool → Attribution → Answer
-answer_by full a = pick full (NotNamed LedgerFull) (Named a)
+answer_by : Bool → Attribution → Result (Option Attribution) Refusal
+answer_by full a = pick full (Err LedgerFull) (Ok (Some a))
 
-recorded_answer : (l : PathLedger) (conn : ConnectionId) (a : Attribution) → (recorded l conn (PathAt a)).answer ≡ answer_by (crowded conn.0 (paths_of l)) a
+recorded_answer : (l : PathLedger) (conn : ConnectionId) (a : Attribution) → (recorded l conn (Some a)).answer ≡ answer_by (crowded conn.0 (paths_of l)) a
 unfolding answer_by
 recorded_answer l conn a = go (crowded conn.0 (paths_of l))
   where
-    go : (full : Bool) → (pick {A = Attributed} full (record { ledger = l; answer = NotNamed LedgerFull }) (record { ledger = with_paths l (inserted (path_row conn a) (paths_of l)); answer = Named a })).answer ≡ pick full (NotNamed LedgerFull) (Named a)
+    go : (full : Bool) → (pick {A = Attributed} full (record { ledger = l; answer = Err LedgerFull }) (record { ledger = with_paths l (inserted (path_row conn a) (paths_of l)); answer = Ok (Some a) })).answer ≡ pick full (Err LedgerFull) (Ok (Some a))
     go true = refl
     go false = refl
 
-same_answer : (k l : PathLedger) (conn : ConnectionId) → paths_of k ≡ paths_of l → (found : FoundPath) → (recorded k conn found).answer ≡ (recorded l conn found).answer
-same_answer k l conn e NoPath = refl
-same_answer k l conn e (PathAt a) = recorded_answer k conn a ∙ ap (λ (rs : List Row). answer_by (crowded conn.0 rs) a) e ∙ sym (recorded_answer l conn a)
+same_answer : (k l : PathLedger) (conn : ConnectionId) → paths_of k ≡ paths_of l → (found : Option Attribution) → (recorded k conn found).answer ≡ (recorded l conn found).answer
+same_answer k l conn e None = refl
+same_answer k l conn e (Some a) = recorded_answer k conn a ∙ ap (λ (rs : List Row). answer_by (crowded conn.0 rs) a) e ∙ sym (recorded_answer l conn a)
 
 expect_dials : (l : PathLedger) (peer : PeerId) (until : ℕ) → dials_of (expect_punches l peer until).ledger ≡ dials_of l
 unfolding expect_punches
@@ -198,7 +193,7 @@ unfolding expect_punches
 expect_paths l peer until = full_paths (refuses_punches l peer) l (with_windows l (inserted (window_row peer (punch_end peer until (windows_of l))) (windows_of l))) refl
 
 -- what is judged of a connection looks at the window of its own peer alone
-pub other_window : (l : PathLedger) (conn : ConnectionId) (peer other : PeerId) → (peer.0 ≡ other.0 → ⊥) → (circuit : Bool) (claim : Claim) (until now : ℕ)
+pub other_window : (l : PathLedger) (conn : ConnectionId) (peer other : PeerId) → (peer.0 ≡ other.0 → ⊥) → (circuit : Bool) (claim : Option Claim) (until now : ℕ)
     → (attributed (expect_punches l other until).ledger conn peer circuit claim now).answer ≡ (attributed l conn peer circuit claim now).answer
 unfolding attributed judged_by
 other_window l conn peer other n circuit claim until now =
@@ -208,7 +203,7 @@ other_window l conn peer other n circuit claim until now =
     ∙ same_answer k l conn (expect_paths l other until) (judged circuit (dial_at conn (dials_of l)) claim (window_open peer now (windows_of l)))
 
 -- a window of another peer that is closed
-pub other_closed : (l : PathLedger) (conn : ConnectionId) (peer other : PeerId) → (peer.0 ≡ other.0 → ⊥) → (circuit : Bool) (claim : Claim) (now : ℕ)
+pub other_closed : (l : PathLedger) (conn : ConnectionId) (peer other : PeerId) → (peer.0 ≡ other.0 → ⊥) → (circuit : Bool) (claim : Option Claim) (now : ℕ)
     → (attributed (end_punches l other) conn peer circuit claim now).answer ≡ (attributed l conn peer circuit claim now).answer
 unfolding attributed judged_by end_punches window_open end_at
 other_closed l conn peer other n circuit claim now =

@@ -3,11 +3,10 @@
 use mathlib.Core.Path.{◌≡◌, refl, ap, sym, subst}
 use mathlib.Core.Bool.{Bool, true, false}
 use mathlib.Core.List.{List, [], ◌∷◌, ◌++◌, map}
+use Rattle.std.specs.Prelude.{Err, None, Ok, Option, Result, Some}
 use Rattle.prelude.specs.Lists.{such}
 use Rattle.prelude.specs.Choice.{pick}
 use Rattle.ids.specs.declared.ConnectId.{ConnectId}
-use Rattle.path.specs.declared.FoundPath.{FoundPath}
-use Rattle.path.specs.declared.FoundPath.TheVariants.{At as PathAt, None as NoPath}
 use Rattle.ids.specs.declared.ConnectionId.{ConnectionId}
 use Rattle.kinds.specs.declared.Row.{Row}
 use Rattle.rows.specs.Rows.{crowded}
@@ -20,11 +19,11 @@ use Rattle.dials.specs.declared.Fate.TheVariants.{Other as FateOther, Stays, Goe
 use Rattle.dials.specs.Dials.{each, stays, fate_at, left_by, left_of, first_for}
 use Rattle.ledger.specs.Ledger.{PathLedger, Attributed, empty_ledger, dials_of, paths_of, judged_by, recorded, full_or, refuses_punches, dial_started, finish_dial, aborted_dials, expect_punches, end_punches, ticked, attributed, forgotten}
 use Rattle.refusal.specs.declared.Refusal.TheVariants.{LedgerFull}
-use Rattle.ledger.specs.declared.Answer.{Answer}
-use Rattle.ledger.specs.declared.Answer.TheVariants.{Path as Named, Refused as NotNamed}
 use Rattle.ledger_laws.specs.Calls.{Call, after, after_all}
 use Rattle.ledger_laws.specs.Calls.Call.{dial_start, dial_finish, dials_abort, punches_expect, punches_end, tick, attribute, forget}
 use Rattle.ledger_laws.specs.Laws.{InOrder}
+use Rattle.path.specs.declared.Attribution.{Attribution}
+use Rattle.refusal.specs.declared.Refusal.{Refusal}
 
 left_such : (id : ConnectId) (g : Row → First) (rs : List Row) → each (left_of id) (map (λ (r : Row). (r, g r)) rs) ≡ such (λ (r : Row). stays (fate_at id r (g r))) rs
 unfolding each such stays
@@ -46,15 +45,15 @@ module _ {l : PathLedger} (o : InOrder l) where
   full_or_lem true c = o
   full_or_lem false c = c
 
-  full_or_named : {changed : PathLedger} (a b : Answer) (full : Bool) → InOrder changed
+  full_or_named : {changed : PathLedger} (a b : Result (Option Attribution) Refusal) (full : Bool) → InOrder changed
       → InOrder (pick {A = Attributed} full (record { ledger = l; answer = a }) (record { ledger = changed; answer = b })).ledger
   full_or_named a b true c = o
   full_or_named a b false c = c
 
-  named : (conn : ConnectionId) (found : FoundPath) → InOrder (recorded l conn found).ledger
-  named conn NoPath = o
-  named conn (PathAt a) =
-      full_or_named (NotNamed LedgerFull) (Named a) (crowded conn.0 (paths_of l)) (record { dials_ascend = o.dials_ascend; windows_ascend = o.windows_ascend; paths_ascend = ascending_inserted _ o.paths_ascend })
+  named : (conn : ConnectionId) (found : Option Attribution) → InOrder (recorded l conn found).ledger
+  named conn None = o
+  named conn (Some a) =
+      full_or_named (Err LedgerFull) (Ok (Some a)) (crowded conn.0 (paths_of l)) (record { dials_ascend = o.dials_ascend; windows_ascend = o.windows_ascend; paths_ascend = ascending_inserted _ o.paths_ascend })
 
   keeps_order : (c : Call) → InOrder (after l c)
   unfolding after dial_started finish_dial aborted_dials expect_punches end_punches ticked attributed forgotten

@@ -1,23 +1,22 @@
 -- Lists of calls of the ledger, and the ledgers that they lead to from the empty one (RULES.md, section 10.7).
 -- a call that may change the ledger, with its arguments; of the live connections, what is the first of each peer
-use Rattle.std.specs.Prelude.{ℕ, Bool, List, [], ◌∷◌}
+use Rattle.std.specs.Prelude.{ℕ, Bool, List, [], ◌∷◌, Option}
 use Rattle.ids.specs.declared.PeerId.{PeerId}
 use Rattle.ids.specs.declared.ConnectionId.{ConnectionId}
 use Rattle.ids.specs.declared.ConnectId.{ConnectId}
 use Rattle.ids.specs.declared.NatToken.{NatToken}
 use Rattle.path.specs.declared.DialPurpose.{DialPurpose}
 use Rattle.path.specs.declared.Claim.{Claim}
-use Rattle.dials.specs.declared.FirstLive.{FirstLive}
 use Rattle.ledger.specs.Ledger.{PathLedger, dial_started, finish_dial, aborted_dials, expect_punches, end_punches, ticked, attributed, forgotten}
 
 pub data Call : Type 0 where
   dial_start : ConnectionId → NatToken → DialPurpose → Call
   dial_finish : ConnectionId → Call
-  dials_abort : ConnectId → PeerId → (PeerId → FirstLive) → Call
+  dials_abort : ConnectId → PeerId → (PeerId → Option ConnectionId) → Call
   punches_expect : PeerId → ℕ → Call
   punches_end : PeerId → Call
   tick : ℕ → Call
-  attribute : ConnectionId → PeerId → Bool → Claim → ℕ → Call
+  attribute : ConnectionId → PeerId → Bool → Option Claim → ℕ → Call
   forget : ConnectionId → Call
 
 -- the ledger that a call leaves

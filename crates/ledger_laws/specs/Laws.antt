@@ -1,7 +1,6 @@
 -- What the laws of the ledger say (RULES.md, section 10.7).
 -- the three tables are ascending, with one row for each key
-use Rattle.std.specs.Prelude.{◌≡◌, Bool, true, false, List, [], ◌∷◌, eqb, length, ℕ}
-use Rattle.rows.specs.declared.Found.TheVariants.{Nothing}
+use Rattle.std.specs.Prelude.{◌≡◌, Bool, true, false, List, [], ◌∷◌, eqb, length, ℕ, None, Option, Some}
 use Rattle.rows.specs.Rows.{find_in}
 use Rattle.prelude.specs.Choice.{both, no}
 use Rattle.ids.specs.declared.PeerId.{PeerId}
@@ -9,11 +8,9 @@ use Rattle.ids.specs.declared.ConnectionId.{ConnectionId}
 use Rattle.ids.specs.declared.ConnectId.{ConnectId}
 use Rattle.path.specs.declared.Path.TheVariants.{Relayed, Punched, Direct}
 use Rattle.path.specs.declared.Owner.{Owner}
-use Rattle.path.specs.declared.Owner.TheVariants.{Attempt, Inbound, None as NoOwner}
+use Rattle.path.specs.declared.Owner.TheVariants.{Attempt, Inbound}
 use Rattle.path.specs.declared.Attribution.{Attribution}
 use Rattle.path.specs.declared.DialPurpose.TheVariants.{Punch}
-use Rattle.path.specs.declared.FoundDial.{FoundDial}
-use Rattle.path.specs.declared.FoundDial.TheVariants.{At as DialAt, None as NoDial}
 use Rattle.path.specs.declared.Claim.{Claim}
 use Rattle.path.specs.declared.Claim.TheVariants.{Circuit, Direct as DirectClaim}
 use Rattle.kinds.specs.declared.Row.{Row}
@@ -21,6 +18,7 @@ use Rattle.rows.specs.Ascending.{Ascending}
 use Rattle.ledger.specs.Ledger.{PathLedger, dials_of, windows_of, paths_of}
 use Rattle.ledger_laws.specs.Calls.{Call}
 use Rattle.ledger_laws.specs.Calls.Call.{dial_start, dial_finish, dials_abort, punches_expect, punches_end, tick, attribute, forget}
+use Rattle.path.specs.declared.Dial.{Dial}
 
 pub record InOrder (l : PathLedger) : Type 0 where
   pub dials_ascend : Ascending (dials_of l)
@@ -28,20 +26,20 @@ pub record InOrder (l : PathLedger) : Type 0 where
   pub paths_ascend : Ascending (paths_of l)
 
 -- the dial found is a punch dial of the attempt
-abbrev pub PunchDial : ConnectId → FoundDial → Type 0
-PunchDial id NoDial = ⊥
-PunchDial id (DialAt dial) = dial.purpose ≡ Punch id
+abbrev pub PunchDial : ConnectId → Option Dial → Type 0
+PunchDial id None = ⊥
+PunchDial id (Some dial) = dial.purpose ≡ Punch id
 
 -- why a connection has its name: exactly one of five cases
-pub data Why (circuit : Bool) (dial : FoundDial) (claim : Claim) (lasting : Bool) : Attribution → Type 0 where
-  relayed : {relay : PeerId} {owner : Owner} → circuit ≡ true → claim ≡ Circuit relay owner → Why circuit dial claim lasting (record { path = Relayed relay; owner = owner })
-  by_punch_dial : {id : ConnectId} → circuit ≡ false → PunchDial id dial → Why circuit dial claim lasting (record { path = Punched; owner = Attempt id })
-  by_attempt : {id : ConnectId} → circuit ≡ false → ((i : ConnectId) → PunchDial i dial → ⊥) → claim ≡ DirectClaim id
-      → Why circuit dial claim lasting (record { path = Direct; owner = Attempt id })
-  by_window : circuit ≡ false → ((i : ConnectId) → PunchDial i dial → ⊥) → ((i : ConnectId) → claim ≡ DirectClaim i → ⊥) → lasting ≡ true
-      → Why circuit dial claim lasting (record { path = Punched; owner = Inbound })
-  otherwise : circuit ≡ false → ((i : ConnectId) → PunchDial i dial → ⊥) → ((i : ConnectId) → claim ≡ DirectClaim i → ⊥) → lasting ≡ false
-      → Why circuit dial claim lasting (record { path = Direct; owner = NoOwner })
+pub data Why (circuit : Bool) (dial : Option Dial) (claim : Option Claim) (lasting : Bool) : Attribution → Type 0 where
+  relayed : {relay : PeerId} {owner : Option Owner} → circuit ≡ true → claim ≡ Some (Circuit relay owner) → Why circuit dial claim lasting (record { path = Relayed relay; owner = owner })
+  by_punch_dial : {id : ConnectId} → circuit ≡ false → PunchDial id dial → Why circuit dial claim lasting (record { path = Punched; owner = Some (Attempt id) })
+  by_attempt : {id : ConnectId} → circuit ≡ false → ((i : ConnectId) → PunchDial i dial → ⊥) → claim ≡ Some (DirectClaim id)
+      → Why circuit dial claim lasting (record { path = Direct; owner = Some (Attempt id) })
+  by_window : circuit ≡ false → ((i : ConnectId) → PunchDial i dial → ⊥) → ((i : ConnectId) → claim ≡ Some (DirectClaim i) → ⊥) → lasting ≡ true
+      → Why circuit dial claim lasting (record { path = Punched; owner = Some Inbound })
+  otherwise : circuit ≡ false → ((i : ConnectId) → PunchDial i dial → ⊥) → ((i : ConnectId) → claim ≡ Some (DirectClaim i) → ⊥) → lasting ≡ false
+      → Why circuit dial claim lasting (record { path = Direct; owner = None })
 
 -- the call neither attributes nor forgets the connection
 unfoldable pub spares : ConnectionId → Call → Bool
@@ -65,4 +63,4 @@ pub data In (r : Row) : List Row → Type 0 where
 
 -- a row for the key would be the 65th: 64 stand there, and none has the key
 abbrev pub Needs65 : ℕ → List Row → Type 0
-Needs65 k rs = (length rs ≡ 64) × (find_in k rs ≡ Nothing)
+Needs65 k rs = (length rs ≡ 64) × (find_in k rs ≡ None)

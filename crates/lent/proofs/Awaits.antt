@@ -7,19 +7,16 @@ use Prim.Native.Nat.{ℕ, ◌-◌, ◌≤◌}
 use native.Mathlib.Omega.{arith}
 use borrow.Author.Tests.{ltb-false, leb-false, le-leb}
 use lib.Dec.{eqb, ltb, leb}
+use Rattle.std.specs.Prelude.{None, Option, Some, ℕ}
 use Rattle.prelude.specs.Choice.{pick, both}
 use Rattle.ids.specs.declared.ConnectionId.{ConnectionId}
 use Rattle.ids.specs.declared.StreamId.{StreamId}
 use Rattle.budget.specs.declared.UpgradeBudget.{UpgradeBudget}
 use Rattle.budget.specs.declared.UpgradeStop.{UpgradeStop}
-use Rattle.budget.specs.declared.UpgradeStop.TheVariants.{None, ExchangeTimeout, UpgradeTimeout}
-use Rattle.budget.specs.declared.Exchange.TheVariants as exchange
-use Rattle.budget.specs.declared.Exchange.{Exchange as Round}
+use Rattle.budget.specs.declared.UpgradeStop.TheVariants.{ExchangeTimeout, UpgradeTimeout}
 use Rattle.budget.specs.Budget.{ended, may_begin, upgrade_due, due_in, due_at, next_in, next_deadline}
 use Rattle.candidates.specs.declared.Chosen.{Chosen}
 use Rattle.vocabulary.specs.declared.Host.{Host}
-use Rattle.vocabulary.specs.declared.Offer.{Offer}
-use Rattle.vocabulary.specs.declared.Offer.TheVariants as offer
 use Rattle.vocabulary.specs.declared.StreamInput.{StreamInput}
 use Rattle.vocabulary.specs.declared.StreamInput.TheVariants as i
 use Rattle.circuit.specs.declared.state.Core.{Core}
@@ -46,22 +43,22 @@ due_then : (b : UpgradeBudget) (at : ℕ) → next_deadline b ≤ at → due_at 
 unfolding next_deadline due_at upgrade_due
 due_then b at h = go b.running h
   where
-    over : b.deadline ≤ at → pick (leb b.deadline at) (UpgradeTimeout (b.deadline - b.armed)) None ≡ None → ⊥
-    over n e = let f : UpgradeTimeout (b.deadline - b.armed) ≡ None = rw (le-leb b.deadline at n) at e in absurd (let z : ◌≡◌ {A = ℕ} 0 1 = cc in omega arith)
+    over : b.deadline ≤ at → pick (leb b.deadline at) (Some (UpgradeTimeout (b.deadline - b.armed))) None ≡ None → ⊥
+    over n e = let f : Some (UpgradeTimeout (b.deadline - b.armed)) ≡ None = rw (le-leb b.deadline at n) at e in absurd (let z : ◌≡◌ {A = ℕ} 0 1 = cc in omega arith)
 
-    go : (r : Round) → next_in b r ≤ at → due_in b at r ≡ None → ⊥
-    go exchange.Idle n e = over n e
-    go (exchange.Running started end) n e = by (leb end at) refl (ltb end b.deadline) refl e
+    go : (r : Option (ℕ × ℕ)) → next_in b r ≤ at → due_in b at r ≡ None → ⊥
+    go None n e = over n e
+    go (Some (started, end)) n e = by (leb end at) refl (ltb end b.deadline) refl e
       where
         by : (u : Bool) → leb end at ≡ u → (v : Bool) → ltb end b.deadline ≡ v
-            → pick (both u v) (ExchangeTimeout b.rounds (end - started)) (pick (leb b.deadline at) (UpgradeTimeout (b.deadline - b.armed)) None) ≡ None → ⊥
+            → pick (both u v) (Some (ExchangeTimeout b.rounds (end - started))) (pick (leb b.deadline at) (Some (UpgradeTimeout (b.deadline - b.armed))) None) ≡ None → ⊥
         by true p true q e = absurd (let z : ◌≡◌ {A = ℕ} 0 1 = cc in omega arith)
         by true p false q e = over (omega (arith, ltb-false end b.deadline q)) e
         by false p v q e = over (omega (arith, leb-false end at p)) (last v e)
           where
             last : (v : Bool)
-                → pick (both false v) (ExchangeTimeout b.rounds (end - started)) (pick (leb b.deadline at) (UpgradeTimeout (b.deadline - b.armed)) None) ≡ None
-                → pick (leb b.deadline at) (UpgradeTimeout (b.deadline - b.armed)) None ≡ None
+                → pick (both false v) (Some (ExchangeTimeout b.rounds (end - started))) (pick (leb b.deadline at) (Some (UpgradeTimeout (b.deadline - b.armed))) None) ≡ None
+                → pick (leb b.deadline at) (Some (UpgradeTimeout (b.deadline - b.armed))) None ≡ None
             last true e = e
             last false e = e
 
@@ -78,10 +75,10 @@ none_unopened : (c : Core) (s : Said) → Unopened (no_round c s)
 unfolding no_round decided_of targets_after
 none_unopened c s t q = refl
 
-stream_unopened : (c : Core) (b : UpgradeBudget) (at : ℕ) (s : Said) (o : Offer) → Unopened (open_stream c b at s o)
+stream_unopened : (c : Core) (b : UpgradeBudget) (at : ℕ) (s : Said) (o : Option (ConnectionId × StreamId)) → Unopened (open_stream c b at s o)
 unfolding decided_of targets_after
-stream_unopened c b at s offer.Nothing = none_unopened c s
-stream_unopened c b at s (offer.Stream conn stream) = λ t q. refl
+stream_unopened c b at s None = none_unopened c s
+stream_unopened c b at s (Some (conn, stream)) = λ t q. refl
 
 round_unopened : (c : Core) (b : UpgradeBudget) (h : Host) (s : Said) → Unopened (open_round c b h s)
 unfolding open_round
@@ -107,14 +104,14 @@ tick_unopened c h conn stream = go (due_at c.budget h.at)
     by true = fail_unopened c h (reset_of conn stream)
     by false = end_unopened c conn stream
 
-    go : (y : UpgradeStop) → Unopened (stopped c h conn stream y)
+    go : (y : Option UpgradeStop) → Unopened (stopped c h conn stream y)
     go None = quiet_unopened c
-    go (ExchangeTimeout round ms) = by (ltb h.at c.budget.deadline)
-    go (UpgradeTimeout ms) = end_unopened c conn stream
+    go (Some (ExchangeTimeout round ms)) = by (ltb h.at c.budget.deadline)
+    go (Some (UpgradeTimeout ms)) = end_unopened c conn stream
 
 first_unopened : (c : Core) (h : Host) (x : Running) (over pending : Bool) → Unopened (first_input c h x over pending)
 unfolding first_input decided_of targets_after
-first_unopened c h x true pending = fail_unopened c h (sending_of silence x.conn x.stream (Connect c.connect) true)
+first_unopened c h x true pending = fail_unopened c h (sending_of silence x.conn x.stream (Some (Connect c.connect)) true)
 first_unopened c h x false pending = λ t q. refl
 
 -- ---- an input that brings no byte of the reply
@@ -146,11 +143,11 @@ module _ (c : Core) (h : Host) (stream : StreamId) (kind : StreamInput) (pending
         sooner true p q e = e
         sooner false p q e = absurd (due_then c.budget h.at (ltb-false h.at (next_deadline c.budget) p) q)
 
-        go : (s : UpgradeStop) → due_at c.budget h.at ≡ s
+        go : (s : Option UpgradeStop) → due_at c.budget h.at ≡ s
             → Apart (in_time c h x kind pending y n f s) (in_time c h x kind pending heard.Nothing 0 false s)
         go None q = timely x.connect (sooner (ltb h.at (next_deadline c.budget)) refl q e)
-        go (ExchangeTimeout round ms) q = (refl, tick_unopened c h x.conn x.stream)
-        go (UpgradeTimeout ms) q = (refl, tick_unopened c h x.conn x.stream)
+        go (Some (ExchangeTimeout round ms)) q = (refl, tick_unopened c h x.conn x.stream)
+        go (Some (UpgradeTimeout ms)) q = (refl, tick_unopened c h x.conn x.stream)
 
   pub unheard : (p : Phase) → awaits c h.at stream kind p ≡ false
       → Apart (input_at c h stream kind pending y n f p) (input_at c h stream kind pending heard.Nothing 0 false p)

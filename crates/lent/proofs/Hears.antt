@@ -5,6 +5,7 @@ use mathlib.Core.List.{List}
 use Prim.Native.Nat.{ℕ, ◌<◌, ◌≤◌}
 use borrow.Author.Tests.{lt-ltb, le-ltb}
 use lib.ListN.{length}
+use Rattle.std.specs.Prelude.{Err, Ok, Result, ⊤}
 use Rattle.prelude.specs.Choice.{pick, both}
 use Rattle.ids.specs.declared.PeerId.{PeerId}
 use Rattle.ids.specs.declared.StreamId.{StreamId}
@@ -17,8 +18,6 @@ use Rattle.frames.specs.Gathering.{gathered_into}
 use Rattle.ledger.specs.Ledger.{tables_of, laid}
 use Rattle.vocabulary.specs.declared.Host.{Host}
 use Rattle.vocabulary.specs.declared.StreamInput.{StreamInput}
-use Rattle.vocabulary.specs.declared.Outcome.TheVariants.{Accepted, Refused}
-use Rattle.vocabulary.specs.declared.Outcome.{Outcome}
 use Rattle.circuit.specs.declared.decision.Decision.{Decision}
 use Rattle.circuit.specs.declared.state.Core.{Core}
 use Rattle.inputs.specs.declared.Heard.TheVariants as heard
@@ -111,16 +110,16 @@ module _ (c : Core) (full : Bool) (h : Host) (targets buffer : List ℕ) (stream
     unfolding input_in
     short_left h g = refused_left ReplyBufferTooShort (rw (lt-ltb (length buffer) max_frame_size h)) g
 
-    module _ (long : max_frame_size ≤ length buffer) {o : Outcome} (check : o ≡ check_of c.phase h.offer own) where
-      pub turned_left : {why : Refusal} {d : Decision} → o ≡ Refused why → d ≡ refused_of c why → Left d targets buffer
+    module _ (long : max_frame_size ≤ length buffer) {o : Result ⊤ Refusal} (check : o ≡ check_of c.phase h.offer own) where
+      pub turned_left : {why : Refusal} {d : Decision} → o ≡ Err why → d ≡ refused_of c why → Left d targets buffer
       unfolding input_in
       turned_left {why} {d} e g = refused_left why (rw (le-ltb (length buffer) max_frame_size long, ← check, e)) g
 
-      passed : o ≡ Accepted → D ≡ hearing c full h buffer stream kind bytes pending
+      passed : o ≡ Ok tt → D ≡ hearing c full h buffer stream kind bytes pending
       unfolding input_in
       passed e = rw (le-ltb (length buffer) max_frame_size long, ← check, e)
 
-      pub heard_left : {a : Bool} {d : Decision} {t b : List ℕ} → o ≡ Accepted → a ≡ awaits c h.at stream kind c.phase → a ≡ true
+      pub heard_left : {a : Bool} {d : Decision} {t b : List ℕ} → o ≡ Ok tt → a ≡ awaits c h.at stream kind c.phase → a ≡ true
           → Heard·by d t b (hearing c full h buffer stream kind bytes pending)
           (pick (is_accepted (hearing c full h buffer stream kind bytes pending).outcome) (gathered_into bytes buffer (frame_bytes c.phase)) buffer)
           → Left d t b
@@ -132,7 +131,7 @@ module _ (c : Core) (full : Bool) (h : Host) (targets buffer : List ℕ) (stream
           with_true true = refl
           with_true false = refl
 
-      pub unheard_left : {a : Bool} {d : Decision} → o ≡ Accepted → a ≡ awaits c h.at stream kind c.phase → a ≡ false
+      pub unheard_left : {a : Bool} {d : Decision} → o ≡ Ok tt → a ≡ awaits c h.at stream kind c.phase → a ≡ false
           → d ≡ input_at c h stream kind pending heard.Nothing 0 false c.phase → Left d targets buffer
       unfolding buffer_after hearing
       unheard_left {a} {d} e i j g =

@@ -9,6 +9,7 @@ use borrow.Author.Tests.{le-ltb, ltb-false}
 use lib.Dec.{ltb, eqb}
 use lib.ListN.{length, take, drop, length-take, length-replicate, length-append, length-drop}
 use lib.Seq.{take-append_seam}
+use Rattle.std.specs.Prelude.{Ok}
 use Rattle.prelude.specs.Choice.{pick}
 use Rattle.wire.specs.Lists.{entries, listed}
 use Rattle.wire.specs.Frame.{max_message_size}
@@ -18,7 +19,6 @@ use Rattle.wire.proofs.Frames.{Within}
 use Rattle.wire.proofs.Listed.{All, read_back, unbroken}
 use Rattle.message.specs.Message.{Content, says, refused, content_of, addresses, type_number, with_room, filled, decode_into}
 use Rattle.message.specs.declared.Kind.TheVariants.{Connect, Sync}
-use Rattle.message.specs.declared.Decoded.TheVariants as d
 use Rattle.message.proofs.Answers.{room_enough}
 use Rattle.message.proofs.Scan.{list_long, listed_more}
 use Rattle.frames.specs.Gathering.{gathered, gathered_into}
@@ -46,7 +46,7 @@ by_content : (x : Content) → replied (with_room x) ≡ reply_for (from_content
 by_content (refused w) = refl
 by_content (says k xs) = go (eqb k (type_number Connect))
   where
-    go : (t : Bool) → replied (d.Message (pick t Connect Sync) (length (listed xs))) ≡ reply_for (pick t (connect xs) failed)
+    go : (t : Bool) → replied (Ok (pick t Connect Sync, length (listed xs))) ≡ reply_for (pick t (connect xs) failed)
     go true = refl
     go false = refl
 

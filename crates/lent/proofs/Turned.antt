@@ -7,6 +7,7 @@ use Prim.Native.Nat.{ℕ}
 use native.Mathlib.Omega.{arith}
 use lib.Dec.{eqb, ltb, leb}
 use lib.ListN.{length}
+use Rattle.std.specs.Prelude.{Err, None, Ok, Option, Result, Some, ⊤}
 use Rattle.prelude.specs.Choice.{pick, both}
 use Rattle.ids.specs.declared.ConnectionId.{ConnectionId}
 use Rattle.ids.specs.declared.PeerId.{PeerId}
@@ -16,20 +17,16 @@ use Rattle.refusal.specs.declared.Refusal.TheVariants.{LedgerFull, ReplyBufferTo
 use Rattle.wire.specs.Frame.{max_frame_size}
 use Rattle.budget.specs.declared.UpgradeBudget.{UpgradeBudget}
 use Rattle.budget.specs.declared.UpgradeStop.{UpgradeStop}
-use Rattle.budget.specs.declared.UpgradeStop.TheVariants.{None, ExchangeTimeout, UpgradeTimeout}
+use Rattle.budget.specs.declared.UpgradeStop.TheVariants.{ExchangeTimeout, UpgradeTimeout}
 use Rattle.budget.specs.Budget.{armed, ended, may_begin, due_at}
 use Rattle.schedule.specs.declared.BlastSchedule.{BlastSchedule}
 use Rattle.schedule.specs.Schedule.{due_of}
 use Rattle.frames.specs.Sent.{own_connect}
 use Rattle.vocabulary.specs.declared.Host.{Host}
-use Rattle.vocabulary.specs.declared.Offer.{Offer}
-use Rattle.vocabulary.specs.declared.Offer.TheVariants as offer
 use Rattle.vocabulary.specs.declared.Effect.{Effect}
 use Rattle.vocabulary.specs.declared.Effect.TheVariants as effect
 use Rattle.vocabulary.specs.declared.StreamInput.{StreamInput}
 use Rattle.vocabulary.specs.declared.StreamInput.TheVariants as i
-use Rattle.vocabulary.specs.declared.Outcome.{Outcome}
-use Rattle.vocabulary.specs.declared.Outcome.TheVariants.{Accepted, Refused}
 use Rattle.circuit.specs.declared.state.Core.{Core}
 use Rattle.circuit.specs.declared.state.Phase.{Phase}
 use Rattle.circuit.specs.declared.state.Phase.TheVariants.{Handshaking, Exchange, Punching, Done}
@@ -57,7 +54,7 @@ use Rattle.lent.specs.Calls.{up_in, up_of, tick_in, tick_of, peeked, hearing, in
 -- ---- decisions that are accepted
 
 abbrev Accepts : Decision → Type 0
-Accepts d = d.outcome ≡ Accepted
+Accepts d = d.outcome ≡ Ok tt
 
 quiet_accepts : (c : Core) → Accepts (quiet_of c)
 unfolding quiet_of decided_of
@@ -67,10 +64,10 @@ none_accepts : (c : Core) (s : Said) → Accepts (no_round c s)
 unfolding no_round decided_of
 none_accepts c s = refl
 
-stream_accepts : (c : Core) (b : UpgradeBudget) (at : ℕ) (s : Said) (o : Offer) → Accepts (open_stream c b at s o)
+stream_accepts : (c : Core) (b : UpgradeBudget) (at : ℕ) (s : Said) (o : Option (ConnectionId × StreamId)) → Accepts (open_stream c b at s o)
 unfolding decided_of
-stream_accepts c b at s offer.Nothing = none_accepts c s
-stream_accepts c b at s (offer.Stream conn stream) = refl
+stream_accepts c b at s None = none_accepts c s
+stream_accepts c b at s (Some (conn, stream)) = refl
 
 round_accepts : (c : Core) (b : UpgradeBudget) (h : Host) (s : Said) → Accepts (open_round c b h s)
 unfolding open_round
@@ -96,17 +93,17 @@ exchange_accepts c h conn stream = go (due_at c.budget h.at)
     by true = fail_accepts c h (reset_of conn stream)
     by false = end_accepts c conn stream
 
-    go : (y : UpgradeStop) → Accepts (stopped c h conn stream y)
+    go : (y : Option UpgradeStop) → Accepts (stopped c h conn stream y)
     go None = quiet_accepts c
-    go (ExchangeTimeout round ms) = by (ltb h.at c.budget.deadline)
-    go (UpgradeTimeout ms) = end_accepts c conn stream
+    go (Some (ExchangeTimeout round ms)) = by (ltb h.at c.budget.deadline)
+    go (Some (UpgradeTimeout ms)) = end_accepts c conn stream
 
 handshake_accepts : (c : Core) (at deadline : ℕ) → Accepts (tick_handshaking c at deadline)
 unfolding tick_handshaking quiet_of decided_of
 handshake_accepts c at deadline = go (ltb at deadline)
   where
     go : (v : Bool)
-        → Accepts (pick v (quiet_of c) (decided_of (in_phase c (Done false)) Kept (event_of (effect.Close c.circuit) effect.Nothing) effect.Nothing))
+        → Accepts (pick v (quiet_of c) (decided_of (in_phase c (Done false)) Kept (event_of (Some (effect.Close c.circuit)) None) None))
     go true = refl
     go false = refl
 
@@ -116,7 +113,7 @@ punching_accepts c h until q = go (leb c.budget.deadline h.at) (ltb h.at until)
   where
     go : (u v : Bool)
         → Accepts (pick u (quiet_of (done_of c))
-        (pick v (decided_of (in_phase c (Punching until (due_of q c.settings.interval h.at).schedule)) Kept (due_burst c h q) effect.Nothing)
+        (pick v (decided_of (in_phase c (Punching until (due_of q c.settings.interval h.at).schedule)) Kept (due_burst c h q) None)
         (open_round c c.budget h (due_burst c h q))))
     go true v = refl
     go false true = refl
@@ -128,7 +125,7 @@ tick_accepts c h (Exchange conn stream count connect) = exchange_accepts c h con
 tick_accepts c h (Punching until q) = punching_accepts c h until q
 tick_accepts c h (Done promoted) = quiet_accepts c
 
-upgraded_accepts : (c : Core) (new : ConnectionId) (third : Effect) → Accepts (upgraded_of c new third)
+upgraded_accepts : (c : Core) (new : ConnectionId) (third : Option Effect) → Accepts (upgraded_of c new third)
 unfolding upgraded_of decided_of
 upgraded_accepts c new third = refl
 
@@ -138,7 +135,7 @@ announced_accepts c h = go c.settings.upgrades
   where
     go : (v : Bool)
         → Accepts (pick v (open_round c (armed h.at c.settings.upgrade c.settings.exchange c.settings.punch) h (path_said c))
-        (decided_of (done_of c) Kept (path_said c) effect.Nothing))
+        (decided_of (done_of c) Kept (path_said c) None))
     go true = round_accepts c (armed h.at c.settings.upgrade c.settings.exchange c.settings.punch) h (path_said c)
     go false = refl
 
@@ -148,11 +145,11 @@ established_accepts c h conn true (Handshaking deadline) = go (eqb conn.0 c.circ
     go : (v : Bool) → Accepts (pick v (announced c h) (quiet_of c))
     go true = announced_accepts c h
     go false = quiet_accepts c
-established_accepts c h conn false (Handshaking deadline) = upgraded_accepts c conn effect.Nothing
+established_accepts c h conn false (Handshaking deadline) = upgraded_accepts c conn None
 established_accepts c h conn true (Exchange at stream count connect) = quiet_accepts c
-established_accepts c h conn false (Exchange at stream count connect) = upgraded_accepts c conn (effect.Reset at stream)
+established_accepts c h conn false (Exchange at stream count connect) = upgraded_accepts c conn (Some (effect.Reset at stream))
 established_accepts c h conn true (Punching until q) = quiet_accepts c
-established_accepts c h conn false (Punching until q) = upgraded_accepts c conn effect.Nothing
+established_accepts c h conn false (Punching until q) = upgraded_accepts c conn None
 established_accepts c h conn relayed (Done promoted) = quiet_accepts c
 
 up_accepts : (c : Core) (h : Host) (peer : PeerId) (conn : ConnectionId) (relayed : Bool) → Accepts (up_at c h peer conn relayed)
@@ -166,18 +163,18 @@ up_accepts c h peer conn relayed = go (eqb peer.0 c.source.0)
 -- ---- decisions that are no more than their refusal, if they are refused
 
 abbrev pub Whole : Core → Decision → Type 0
-Whole c d = (why : Refusal) → d.outcome ≡ Refused why → d ≡ refused_of c why
+Whole c d = (why : Refusal) → d.outcome ≡ Err why → d ≡ refused_of c why
 
 accepted_whole : (c : Core) (d : Decision) → Accepts d → Whole c d
-accepted_whole c d a why e = absurd (let w : Accepted ≡ Refused why = sym a ∙ e in let z : ◌≡◌ {A = ℕ} 0 1 = cc in omega arith)
+accepted_whole c d a why e = absurd (let w : Ok tt ≡ Err why = sym a ∙ e in let z : ◌≡◌ {A = ℕ} 0 1 = cc in omega arith)
 
 refused_whole : (c : Core) (w : Refusal) → Whole c (refused_of c w)
 unfolding refused_of
 refused_whole c w why e = let f : w ≡ why = cc in rw f
 
-unless_whole : (c : Core) (d : Decision) (o : Outcome) → Whole c d → Whole c (unless c d o)
-unless_whole c d Accepted w = w
-unless_whole c d (Refused why) w = refused_whole c why
+unless_whole : (c : Core) (d : Decision) (o : Result ⊤ Refusal) → Whole c d → Whole c (unless c d o)
+unless_whole c d (Ok tt) w = w
+unless_whole c d (Err why) w = refused_whole c why
 
 plain : (c : Core) (why : Refusal) → opens (refused_of c why).fourth ≡ false
 unfolding refused_of opens
@@ -214,7 +211,7 @@ window_accepts c at x n = refl
 
 first_accepts : (c : Core) (h : Host) (x : Running) (over pending : Bool) → Accepts (first_input c h x over pending)
 unfolding first_input decided_of
-first_accepts c h x true pending = fail_accepts c h (sending_of silence x.conn x.stream (Connect c.connect) true)
+first_accepts c h x true pending = fail_accepts c h (sending_of silence x.conn x.stream (Some (Connect c.connect)) true)
 first_accepts c h x false pending = refl
 
 module _ (c : Core) (h : Host) (n : ℕ) (full : Bool) where
@@ -244,10 +241,10 @@ module _ (c : Core) (h : Host) (n : ℕ) (full : Bool) where
     unfolding exchange_input
     exchange_whole x k = go (due_at c.budget h.at)
       where
-        go : (s : UpgradeStop) → Whole c (in_time c h x k pending y n full s)
+        go : (s : Option UpgradeStop) → Whole c (in_time c h x k pending y n full s)
         go None = timely_whole x k x.connect
-        go (ExchangeTimeout round ms) = accepted_whole c (tick_exchange c h x.conn x.stream) (exchange_accepts c h x.conn x.stream)
-        go (UpgradeTimeout ms) = accepted_whole c (tick_exchange c h x.conn x.stream) (exchange_accepts c h x.conn x.stream)
+        go (Some (ExchangeTimeout round ms)) = accepted_whole c (tick_exchange c h x.conn x.stream) (exchange_accepts c h x.conn x.stream)
+        go (Some (UpgradeTimeout ms)) = accepted_whole c (tick_exchange c h x.conn x.stream) (exchange_accepts c h x.conn x.stream)
 
     at_whole : (stream : StreamId) (k : StreamInput) (p : Phase) → Whole c (input_at c h stream k pending y n full p)
     at_whole stream k (Handshaking deadline) = accepted_whole c (quiet_of c) (quiet_accepts c)

@@ -1,5 +1,5 @@
 -- The calls over lent bytes (RULES.md, sections 11.3 to 11.7): what each decides.
-use Rattle.std.specs.Prelude.{ℕ, Bool, true, false, List, ltb, length}
+use Rattle.std.specs.Prelude.{ℕ, Bool, true, false, List, ltb, length, Err, Ok, Result, ⊤, is_ok}
 use Rattle.prelude.specs.Choice.{pick, both}
 use Rattle.ids.specs.declared.ConnectionId.{ConnectionId}
 use Rattle.ids.specs.declared.StreamId.{StreamId}
@@ -9,8 +9,6 @@ use Rattle.wire.specs.Frame.{max_frame_size}
 use Rattle.frames.specs.Gathering.{gathered_into}
 use Rattle.vocabulary.specs.declared.Host.{Host}
 use Rattle.vocabulary.specs.declared.StreamInput.{StreamInput}
-use Rattle.vocabulary.specs.declared.Outcome.{Outcome}
-use Rattle.vocabulary.specs.declared.Outcome.TheVariants.{Accepted, Refused}
 use Rattle.circuit.specs.declared.state.Core.{Core}
 use Rattle.circuit.specs.declared.decision.Decision.{Decision}
 use Rattle.circuit.specs.Calls.{unless}
@@ -24,6 +22,7 @@ use Rattle.inputs.specs.Inputs.{input_at, awaits, frame_bytes}
 use Rattle.lent.specs.Brought.{brought_by}
 use Rattle.lent.specs.Replies.{peeked_of}
 use Rattle.carried.specs.Carried.{framed_by}
+use Rattle.refusal.specs.declared.Refusal.{Refusal}
 
 -- ---- up, tick and input
 
@@ -58,11 +57,10 @@ input_in c full h own buffer stream kind bytes pending =
 unfoldable pub input_of : Core → (full : Bool) → Host → (own buffer : List ℕ) → StreamId → StreamInput → (bytes : List ℕ) → (pending : Bool) → Decision
 input_of c full h own buffer stream kind bytes pending = framed_by (terms_of c.settings) own (input_in c full h own buffer stream kind bytes pending)
 
-abbrev pub is_accepted : Outcome → Bool
-is_accepted Accepted = true
-is_accepted (Refused why) = false
+abbrev pub is_accepted : Result ⊤ Refusal → Bool
+is_accepted o = is_ok o
 
 -- bytes of the reply are gathered in its buffer, but not by a refused call
-unfoldable pub buffer_after : Core → ℕ → List ℕ → StreamId → StreamInput → List ℕ → Outcome → List ℕ
+unfoldable pub buffer_after : Core → ℕ → List ℕ → StreamId → StreamInput → List ℕ → Result ⊤ Refusal → List ℕ
 buffer_after c at buffer stream kind bytes o =
     pick (both (is_accepted o) (awaits c at stream kind c.phase)) (gathered_into bytes buffer (frame_bytes c.phase)) buffer

@@ -12,26 +12,17 @@ ghost use Rattle.lent.specs.Calls.{up_in, up_of, tick_in, tick_of, peeked, heari
 use crate::{TargetBytes, reply};
 use candidates::Chosen;
 use circuit::decision::Decision;
+use circuit::state;
 use circuit::state::Core;
-use circuit::{decision, state};
 use frames::FrameBytes;
 use ids::{ConnectionId, PeerId, StreamId};
 use inputs::Heard;
 use ledger::Ledger;
 use refusal::Refusal;
 use upgrade::{tick, up};
-use vocabulary::{Host, Outcome, StreamInput};
+use vocabulary::{Host, StreamInput};
 
 // ---- input
-
-fn is_accepted(outcome: Outcome) -> bool
-    ensures { result ≡ is_accepted outcome }
-{
-    match outcome {
-        Outcome::Accepted => true,
-        Outcome::Refused(_) => false,
-    }
-}
 
 // The bytes of an accepted call are stored.
 fn store(accepted: bool, bytes: &[u8], buffer: &mut [u8], count: usize)
@@ -58,19 +49,22 @@ fn hear(
     ensures targets { targets.new ≡ targets_after targets.old (peeked c buffer.old bytes.now).targets (hearing c (refuses_punches (tables_of ledger.now) c.source) host buffer.old stream input bytes.now pending).window }
     ensures buffer { buffer.new ≡ pick (is_accepted (hearing c (refuses_punches (tables_of ledger.now) c.source) host buffer.old stream input bytes.now pending).outcome) (gathered_into bytes.now buffer.old (frame_bytes c.phase)) buffer.old }
 {
-    let source = c.source;
-    let phase = c.phase;
-    let count = inputs::frame_bytes(phase);
-    let terms = state::terms(c.settings);
-    let peeked = reply::peek_data(bytes, buffer, count, terms);
-    let heard = peeked.heard;
+    let count = inputs::frame_bytes(c.phase);
+    let peeked = reply::peek_data(bytes, buffer, count, state::terms(c.settings));
     let chosen = peeked.targets;
-    let full = ledger::refuses_punches(ledger, source);
-    let d = inputs::input(c, host, stream, input, pending, heard, chosen.len, full);
-    let outcome = d.outcome;
-    let window = d.window;
-    store(is_accepted(outcome), bytes, buffer, count);
-    carried::take_targets(window, chosen, targets);
+    let full = ledger::refuses_punches(ledger, c.source);
+    let d = inputs::input(
+        c,
+        host,
+        stream,
+        input,
+        pending,
+        peeked.heard,
+        chosen.len,
+        full,
+    );
+    store(d.outcome.is_ok(), bytes, buffer, count);
+    carried::take_targets(d.window, chosen, targets);
     d
 }
 
@@ -91,28 +85,22 @@ fn input_in(
     ensures buffer { buffer.new ≡ buffer_after c host.at buffer.old stream input bytes.now (input_in c (refuses_punches (tables_of ledger.now) c.source) host own.now buffer.old stream input bytes.now pending).outcome }
 {
     if buffer.len() < wire::MAX_FRAME_SIZE {
-        return decision::refused(c, Refusal::ReplyBufferTooShort);
+        return Decision::refused(c, Refusal::ReplyBufferTooShort);
     }
-    let phase = c.phase;
-    let offer = host.offer;
-    let check = checks::checked(phase, offer, own);
-    match check {
-        Outcome::Refused(why) => {
-            return decision::refused(c, why);
+    match checks::checked(c.phase, host.offer, own) {
+        Err(why) => Decision::refused(c, why),
+        Ok(()) if inputs::awaits_reply(c, host.at, stream, input) => {
+            hear(
+                c, targets, ledger, buffer, host, stream, input, bytes, pending,
+            )
         }
-        Outcome::Accepted => {
-            if inputs::awaits_reply(c, host.at, stream, input) {
-                return hear(
-                    c, targets, ledger, buffer, host, stream, input, bytes, pending,
-                );
-            }
-            return inputs::input(c, host, stream, input, pending, Heard::Nothing, 0, false);
-        }
+        Ok(()) => inputs::input(c, host, stream, input, pending, Heard::Nothing, 0, false),
     }
 }
 
 // ---- up and tick
 
+#[tactic(auto, unfolding(crate::specs::Calls::up_in))]
 fn up_in(
     c: Core,
     host: Host,
@@ -123,32 +111,19 @@ fn up_in(
 ) -> Decision
     ensures { result ≡ up_in c host own.now peer conn relayed }
 {
-    let phase = c.phase;
-    let offer = host.offer;
-    let check = checks::checked(phase, offer, own);
-    match check {
-        Outcome::Refused(why) => {
-            return decision::refused(c, why);
-        }
-        Outcome::Accepted => {
-            return up::up(c, host, peer, conn, relayed);
-        }
+    match checks::checked(c.phase, host.offer, own) {
+        Err(why) => Decision::refused(c, why),
+        Ok(()) => up::up(c, host, peer, conn, relayed),
     }
 }
 
+#[tactic(auto, unfolding(crate::specs::Calls::tick_in))]
 fn tick_in(c: Core, host: Host, own: &[u8]) -> Decision
     ensures { result ≡ tick_in c host own.now }
 {
-    let phase = c.phase;
-    let offer = host.offer;
-    let check = checks::checked(phase, offer, own);
-    match check {
-        Outcome::Refused(why) => {
-            return decision::refused(c, why);
-        }
-        Outcome::Accepted => {
-            return tick::tick(c, host);
-        }
+    match checks::checked(c.phase, host.offer, own) {
+        Err(why) => Decision::refused(c, why),
+        Ok(()) => tick::tick(c, host),
     }
 }
 
@@ -160,10 +135,10 @@ pub fn clear(connect: &mut FrameBytes, targets: &mut TargetBytes)
     ensures targets { targets.new ≡ no_aims }
 {
     let frame = frames::blank();
-    carried::copy_frame(&frame, connect);
+    *connect = frame;
     let none = Chosen::empty();
     let aims = none.bytes;
-    carried::copy_targets(&aims, targets);
+    *targets = aims;
 }
 
 pub fn on_connection_established(
@@ -183,10 +158,9 @@ pub fn on_connection_established(
     ensures tables { tables_of ledger.new ≡ ledger_after c.source (tables_of ledger.old) (up_of c host own.now peer conn relayed).window }
     ensures words { ledger.new ≡ laid (ledger_after c.source (tables_of ledger.old) (up_of c host own.now peer conn relayed).window) ledger.old }
 {
-    let source = c.source;
     let d = up_in(c, host, own, peer, conn, relayed);
     let terms = state::terms(c.settings);
-    carried::carry_out(d, source, terms, own, connect, sent, ledger)
+    carried::carry_out(d, c.source, terms, own, connect, sent, ledger)
 }
 
 pub fn on_tick(
@@ -203,10 +177,9 @@ pub fn on_tick(
     ensures tables { tables_of ledger.new ≡ ledger_after c.source (tables_of ledger.old) (tick_of c host own.now).window }
     ensures words { ledger.new ≡ laid (ledger_after c.source (tables_of ledger.old) (tick_of c host own.now).window) ledger.old }
 {
-    let source = c.source;
     let d = tick_in(c, host, own);
     let terms = state::terms(c.settings);
-    carried::carry_out(d, source, terms, own, connect, sent, ledger)
+    carried::carry_out(d, c.source, terms, own, connect, sent, ledger)
 }
 
 pub fn on_dcutr_stream_input(
@@ -231,10 +204,9 @@ pub fn on_dcutr_stream_input(
     ensures words { ledger.new ≡ laid (ledger_after c.source (tables_of ledger.old) (input_of c (refuses_punches (tables_of ledger.old) c.source) host own.now buffer.old stream input bytes.now pending).window) ledger.old }
     ensures buffer { buffer.new ≡ buffer_after c host.at buffer.old stream input bytes.now (input_of c (refuses_punches (tables_of ledger.old) c.source) host own.now buffer.old stream input bytes.now pending).outcome }
 {
-    let source = c.source;
     let d = input_in(
         c, targets, ledger, buffer, host, own, stream, input, bytes, pending,
     );
     let terms = state::terms(c.settings);
-    carried::carry_out(d, source, terms, own, connect, sent, ledger)
+    carried::carry_out(d, c.source, terms, own, connect, sent, ledger)
 }

@@ -17,6 +17,7 @@ pub struct Peeked {
 // Room for the address list of any message.
 type AddressBytes = [u8; wire::MAX_MESSAGE_SIZE];
 
+#[tactic(auto, unfolding(crate::specs::Replies::no_list))]
 fn no_list() -> AddressBytes
     ensures { result ≡ no_list }
 {
@@ -24,12 +25,11 @@ fn no_list() -> AddressBytes
 }
 
 // The targets among the addresses of a reply.
+#[tactic(auto, unfolding(crate::specs::Replies::chosen_from))]
 fn targets_from(list: &[u8], terms: Terms) -> Chosen
     ensures { result ≡ chosen_from terms list.now }
 {
-    let selection = candidates::select_punch_candidates(list, terms);
-    let chosen = selection.chosen;
-    chosen
+    candidates::select_punch_candidates(list, terms).chosen
 }
 
 // The bytes behind the first `count` of the buffer, which stays as it is.
@@ -37,28 +37,18 @@ pub fn peek_data(bytes: &[u8], buffer: &[u8], count: usize, terms: Terms) -> Pee
     ensures { result ≡ peeked_of terms (brought_by bytes.now buffer.now count) }
 {
     let mut list = no_list();
-    let reply = initiator::peek_reply(bytes, buffer, count, &mut list);
-    match reply {
-        Reply::More { count: n } => {
-            let targets = Chosen::empty();
-            return Peeked {
-                heard: Heard::More(n),
-                targets: targets,
-            };
-        }
-        Reply::Failed => {
-            let targets = Chosen::empty();
-            return Peeked {
-                heard: Heard::Failed,
-                targets: targets,
-            };
-        }
-        Reply::Connect { size } => {
-            let targets = targets_from(&list[..size], terms);
-            return Peeked {
-                heard: Heard::Connect,
-                targets: targets,
-            };
-        }
+    match initiator::peek_reply(bytes, buffer, count, &mut list) {
+        Reply::More { count: n } => Peeked {
+            heard: Heard::More(n),
+            targets: Chosen::empty(),
+        },
+        Reply::Failed => Peeked {
+            heard: Heard::Failed,
+            targets: Chosen::empty(),
+        },
+        Reply::Connect { size } => Peeked {
+            heard: Heard::Connect,
+            targets: targets_from(&list[..size], terms),
+        },
     }
 }

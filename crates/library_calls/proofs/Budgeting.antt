@@ -3,13 +3,14 @@ use mathlib.Core.Path.{◌≡◌, ap}
 use mathlib.Core.List.{List, []}
 use mathlib.Core.Bool.{true, false}
 use Prim.Native.Nat.{ℕ}
-use Rattle.library_calls.specs.declared.budgets.Kept.{Kept}
+use Rattle.std.specs.Prelude.{Option}
 use Rattle.call_table.specs.Tables.{call_of, said_text, answer_text}
 use Rattle.call_table.specs.declared.Call.{Call}
 use Rattle.library_calls.specs.Budgets.{budget_turn, turn_by, text_by}
 use Rattle.library_calls.specs.declared.budgets.Turn.{Turn}
+use Rattle.budget.specs.declared.UpgradeBudget.{UpgradeBudget}
 
-module _ (table line : List ℕ) (s : Kept) {c : Call} (e : c ≡ call_of table line) where
+module _ (table line : List ℕ) (s : Option UpgradeBudget) {c : Call} (e : c ≡ call_of table line) where
   module _ {t : Turn} (f : c.found ≡ true) (g : t ≡ budget_turn s c.row c.words) where
     turned : t ≡ turn_by table s line
     unfolding turn_by

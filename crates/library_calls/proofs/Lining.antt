@@ -4,6 +4,7 @@ use mathlib.Core.List.{List, []}
 use mathlib.Core.Bool.{Bool, true, false}
 use Prim.Native.Nat.{ℕ}
 use native.Mathlib.Omega.{arith}
+use Rattle.std.specs.Prelude.{Option}
 use Rattle.prelude.specs.Choice.{pick}
 use Rattle.text.specs.Printed.{printed, behind}
 use Rattle.text.proofs.Printing.{Laid, parts}
@@ -11,11 +12,11 @@ use Rattle.schedule.specs.declared.BlastSchedule.{BlastSchedule}
 use Rattle.call_table.specs.Tables.{answer_text}
 use Rattle.library_calls.specs.Lines.{Turn, turn, keeping, among, turn_of}
 use Rattle.library_calls.specs.declared.Kept.{Kept}
-use Rattle.library_calls.specs.declared.budgets.Kept.{Kept as Budget}
 use Rattle.library_calls.specs.Messages as message
 use Rattle.library_calls.specs.Choices as choice
 use Rattle.library_calls.specs.Budgets as budget
 use Rattle.library_calls.specs.Schedules as schedule
+use Rattle.budget.specs.declared.UpgradeBudget.{UpgradeBudget}
 
 -- a contract's four clauses, from the turn that was made
 pub told : (t : Turn) {u : Turn} {o x : List ℕ} {q : ℕ} → t ≡ u → Laid o 0 t.text x q
@@ -59,7 +60,7 @@ module _ (k : Kept) (line : List ℕ) where
     by_choice e = rw (m, e)
 
     module _ (c : among choice.choices_table line ≡ false) where
-      pub by_budget : {b : Budget} → among budget.budgets_table line ≡ true → b ≡ budget.budget_after k.budget line
+      pub by_budget : {b : Option UpgradeBudget} → among budget.budgets_table line ≡ true → b ≡ budget.budget_after k.budget line
           → turn true (keeping b k.schedule) (budget.budgets_text k.budget line) ≡ turn_of k line
       unfolding turn_of
       by_budget e f = rw (m, c, e, f)

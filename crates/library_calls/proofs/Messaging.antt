@@ -6,20 +6,20 @@ use native.Mathlib.Omega.{arith}
 use lib.ListN.{length, take, drop, length-replicate, length-take, get_or}
 use lib.Seq.{sets, sets-eq}
 use borrow.Author.Tests.{lt-ltb, le-ltb}
+use Rattle.std.specs.Prelude.{Result, ℕ}
 use Rattle.text.specs.Printed.{printed}
 use Rattle.line_program.proofs.Answers.{take_replicate}
 use Rattle.wire.specs.Varint.{encoded}
 use Rattle.message.specs.Message.{decode_of, decode_into}
 use Rattle.message.specs.Encoding.{encode_of, encode_into}
 use Rattle.message.specs.declared.Kind.{Kind}
-use Rattle.message.specs.declared.Decoded.{Decoded}
-use Rattle.message.specs.declared.Encoded.{Encoded}
 use Rattle.call_table.specs.Tables.{call_of, decoded, none, says, shows, no_bytes_lem, answer_text}
 use Rattle.call_table.specs.declared.Call.{Call}
 use Rattle.call_table.specs.declared.Bytes.{Bytes}
 use Rattle.call_table.specs.declared.Said.{Said}
 use Rattle.call_table.proofs.Calling.{whole}
 use Rattle.library_calls.specs.Messages.{encode_said, filler, after, decoded_said, read_said, encoded_said, write_said, message_said, text_by}
+use Rattle.refusal.specs.declared.Refusal.{Refusal}
 
 pub encode_shown : (v : ℕ) {o x : List ℕ} {n : ℕ} → o ≡ no_bytes_lem → x ≡ sets o 0 (encoded v) → n ≡ length (encoded v)
     → shows 1 (0 ∷ n ∷ 0 ∷ 0 ∷ 0 ∷ 0 ∷ []) x ≡ encode_said v
@@ -54,11 +54,11 @@ sized : (room : ℕ) {b : List ℕ} → room ≤ 8192 → b ≡ filler 8192 → 
 sized room {b} h e = length-take room b ∙ (omega (arith, filled_length e))
 
 module _ (m : List ℕ) (room : ℕ) {b x : List ℕ} (h : room ≤ 8192) (e : b ≡ filler 8192) (k : length x ≡ length (take room b)) where
-  pub read_shown : {d : Decoded} → d ≡ decode_of m (length (take room b)) → x ≡ decode_into m (take room b) → decoded_said d room (x ++ drop room b) ≡ read_said m room
+  pub read_shown : {d : Result (Kind × ℕ) Refusal} → d ≡ decode_of m (length (take room b)) → x ≡ decode_into m (take room b) → decoded_said d room (x ++ drop room b) ≡ read_said m room
   unfolding read_said
   read_shown f g = rw (after_is room x h (k ∙ sized room h e) e, le-ltb 8192 room h, f, g, sized room h e, filled_part room e h)
 
-  pub write_shown : (kind : Kind) {r : Encoded} → r ≡ encode_of kind m (length (take room b)) → x ≡ encode_into kind m (take room b) → encoded_said r room (x ++ drop room b) ≡ write_said kind m room
+  pub write_shown : (kind : Kind) {r : Result ℕ Refusal} → r ≡ encode_of kind m (length (take room b)) → x ≡ encode_into kind m (take room b) → encoded_said r room (x ++ drop room b) ≡ write_said kind m room
   unfolding write_said
   write_shown kind f g = rw (after_is room x h (k ∙ sized room h e) e, le-ltb 8192 room h, f, g, sized room h e, filled_part room e h)
 

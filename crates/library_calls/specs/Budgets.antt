@@ -1,17 +1,15 @@
 -- Calls of `budget` (RULES.md, section 8): what each row's call makes of the budget that is kept, and what is said of it.
-use Rattle.std.specs.Prelude.{ℕ, List, [], ◌∷◌, ◌++◌, get_or, eqb, ltb}
+use Rattle.std.specs.Prelude.{ℕ, List, [], ◌∷◌, ◌++◌, get_or, eqb, ltb, None, Option, Some}
 use Rattle.prelude.specs.Choice.{pick, bit}
 use Rattle.text.specs.Words.{ascii}
 use Rattle.budget.specs.Budget.{max_rounds, next_deadline, armed, may_begin, begun, ended, window_end, due_at}
 use Rattle.budget.specs.declared.UpgradeBudget.{UpgradeBudget}
 use Rattle.budget.specs.declared.UpgradeStop.{UpgradeStop}
-use Rattle.budget.specs.declared.UpgradeStop.TheVariants.{None, ExchangeTimeout, UpgradeTimeout}
+use Rattle.budget.specs.declared.UpgradeStop.TheVariants.{ExchangeTimeout, UpgradeTimeout}
 use Rattle.call_table.specs.Tables.{call_of, none, says, answer_text}
 use Rattle.call_table.specs.declared.Said.{Said}
 use Rattle.call_table.specs.declared.Call.{Call}
 use Rattle.library_calls.specs.declared.budgets.Turn.{Turn}
-use Rattle.library_calls.specs.declared.budgets.Kept.{Kept}
-use Rattle.library_calls.specs.declared.budgets.Kept.TheVariants.{Unarmed, Armed}
 
 unfoldable pub budgets_table : List ℕ
 budgets_table =
@@ -29,7 +27,7 @@ unfoldable pub state_said : UpgradeBudget → Said
 state_said b = says 2 (b.rounds ∷ left b ∷ b.deadline ∷ next_deadline b ∷ 0 ∷ 0 ∷ [])
 
 abbrev pub turned : UpgradeBudget → Said → Turn
-turned b said = record { kept = Armed b; said = said }
+turned b said = record { kept = Some b; said = said }
 
 -- whether a round began, and the budget then
 unfoldable pub begun_turn : UpgradeBudget → ℕ → Turn
@@ -37,10 +35,10 @@ begun_turn b at =
     turned (begun b at)
     (says 2 (bit (may_begin b at) ∷ (begun b at).rounds ∷ left (begun b at) ∷ (begun b at).deadline ∷ next_deadline (begun b at) ∷ 0 ∷ []))
 
-abbrev pub due_said : UpgradeStop → Said
+abbrev pub due_said : Option UpgradeStop → Said
 due_said None = says 2 none
-due_said (ExchangeTimeout round ms) = says 3 (round ∷ ms ∷ 0 ∷ 0 ∷ 0 ∷ 0 ∷ [])
-due_said (UpgradeTimeout ms) = says 4 (ms ∷ 0 ∷ 0 ∷ 0 ∷ 0 ∷ 0 ∷ [])
+due_said (Some (ExchangeTimeout round ms)) = says 3 (round ∷ ms ∷ 0 ∷ 0 ∷ 0 ∷ 0 ∷ [])
+due_said (Some (UpgradeTimeout ms)) = says 4 (ms ∷ 0 ∷ 0 ∷ 0 ∷ 0 ∷ 0 ∷ [])
 
 -- begin, end, window and due; before the first arm they are bad
 unfoldable pub armed_turn : UpgradeBudget → ℕ → ℕ → Turn
@@ -49,29 +47,29 @@ armed_turn b row at =
     (pick (eqb row 2) (turned (ended b) (state_said (ended b)))
     (pick (eqb row 3) (turned b (says 2 (window_end b at ∷ 0 ∷ 0 ∷ 0 ∷ 0 ∷ 0 ∷ []))) (turned b (due_said (due_at b at)))))
 
-abbrev pub kept_turn : Kept → ℕ → ℕ → Turn
-kept_turn Unarmed row at = record { kept = Unarmed; said = says 1 none }
-kept_turn (Armed b) row at = armed_turn b row at
+abbrev pub kept_turn : Option UpgradeBudget → ℕ → ℕ → Turn
+kept_turn None row at = record { kept = None; said = says 1 none }
+kept_turn (Some b) row at = armed_turn b row at
 
 abbrev pub arm_turn : UpgradeBudget → Turn
 arm_turn b = turned b (state_said b)
 
-unfoldable pub budget_turn : Kept → ℕ → List ℕ → Turn
+unfoldable pub budget_turn : Option UpgradeBudget → ℕ → List ℕ → Turn
 budget_turn kept row w =
     pick (eqb row 0) (arm_turn (armed (get_or w 0 0) (get_or w 1 0) (get_or w 2 0) (get_or w 3 0))) (kept_turn kept row (get_or w 0 0))
 
 -- a line that is none of these calls leaves what is kept, and nothing is printed of it
-abbrev pub turn_of : Kept → Call → Turn
+abbrev pub turn_of : Option UpgradeBudget → Call → Turn
 turn_of kept c = pick c.found (budget_turn kept c.row c.words) (record { kept = kept; said = says 0 none })
 
-unfoldable pub turn_by : List ℕ → Kept → List ℕ → Turn
+unfoldable pub turn_by : List ℕ → Option UpgradeBudget → List ℕ → Turn
 turn_by table kept line = turn_of kept (call_of table line)
 
-unfoldable pub text_by : List ℕ → Kept → List ℕ → List ℕ
+unfoldable pub text_by : List ℕ → Option UpgradeBudget → List ℕ → List ℕ
 text_by table kept line = answer_text table (call_of table line).found (call_of table line).row (turn_by table kept line).said
 
-abbrev pub budget_after : Kept → List ℕ → Kept
+abbrev pub budget_after : Option UpgradeBudget → List ℕ → Option UpgradeBudget
 budget_after kept line = (turn_by budgets_table kept line).kept
 
-abbrev pub budgets_text : Kept → List ℕ → List ℕ
+abbrev pub budgets_text : Option UpgradeBudget → List ℕ → List ℕ
 budgets_text kept line = text_by budgets_table kept line

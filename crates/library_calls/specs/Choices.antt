@@ -1,5 +1,5 @@
 -- Calls of `address` and `candidates` (RULES.md, sections 6 and 7): each row's call, and what is answered to it.
-use Rattle.std.specs.Prelude.{ℕ, List, [], ◌∷◌, ◌++◌, Bool, true, false, get_or, eqb}
+use Rattle.std.specs.Prelude.{ℕ, List, [], ◌∷◌, ◌++◌, Bool, true, false, get_or, eqb, Err, None, Ok, Option, Result, Some, ⊤}
 use Rattle.prelude.specs.Choice.{pick}
 use Rattle.text.specs.Words.{ascii}
 use Rattle.text.specs.Printed.{printed}
@@ -7,16 +7,14 @@ use Rattle.refusal.specs.Number.{number_of}
 use Rattle.wire.specs.Lists.{entries}
 use Rattle.address.specs.Multiaddr.{parsed}
 use Rattle.address.specs.Words.{may_be_target}
-use Rattle.address.specs.declared.Parsed.{Parsed}
-use Rattle.address.specs.declared.Parsed.TheVariants as parsing
 use Rattle.candidates.specs.Selection.{usual, usually, selected, own, bounded, answered}
 use Rattle.candidates.specs.declared.Chosen.{Chosen}
 use Rattle.candidates.specs.declared.Selection.{Selection}
-use Rattle.vocabulary.specs.declared.Outcome.{Outcome}
-use Rattle.vocabulary.specs.declared.Outcome.TheVariants.{Accepted, Refused}
 use Rattle.call_table.specs.Tables.{call_of, bytes_in, none, says, shows, no_bytes_lem, answer_text}
 use Rattle.call_table.specs.declared.Said.{Said}
 use Rattle.call_table.specs.declared.Call.{Call}
+use Rattle.address.specs.declared.Ip.{Ip}
+use Rattle.refusal.specs.declared.Refusal.{Refusal}
 
 unfoldable pub choices_table : List ℕ
 choices_table =
@@ -31,14 +29,14 @@ abbrev pub yes_said : Bool → Said
 yes_said passes = pick passes (says 1 none) (says 2 none)
 
 -- whether an address may be a target, where the bytes are one
-abbrev pub eligible_said : Bool → Parsed → Said
-eligible_said private (parsing.Address ip port) = yes_said (may_be_target private ip)
-eligible_said private parsing.Other = says 3 none
+abbrev pub eligible_said : Bool → Option (Ip × ℕ) → Said
+eligible_said private (Some (ip, port)) = yes_said (may_be_target private ip)
+eligible_said private None = says 3 none
 
 -- the list kept is the first bytes
-abbrev pub outcome_said : Chosen → Outcome → Said
-outcome_said c Accepted = shows 1 (0 ∷ c.len ∷ 0 ∷ 0 ∷ 0 ∷ 0 ∷ []) (printed no_bytes_lem 0 c.bytes)
-outcome_said c (Refused why) = says 2 (number_of why ∷ 0 ∷ 0 ∷ 0 ∷ 0 ∷ 0 ∷ [])
+abbrev pub outcome_said : Chosen → Result ⊤ Refusal → Said
+outcome_said c (Ok tt) = shows 1 (0 ∷ c.len ∷ 0 ∷ 0 ∷ 0 ∷ 0 ∷ []) (printed no_bytes_lem 0 c.bytes)
+outcome_said c (Err why) = says 2 (number_of why ∷ 0 ∷ 0 ∷ 0 ∷ 0 ∷ 0 ∷ [])
 
 abbrev pub selection_said : Selection → Said
 selection_said s = outcome_said s.chosen s.outcome

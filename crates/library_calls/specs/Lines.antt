@@ -1,22 +1,21 @@
 -- What a line does, and what is printed of it: it is the call of the first table that has its form.
-use Rattle.std.specs.Prelude.{ℕ, List, Bool, true}
+use Rattle.std.specs.Prelude.{ℕ, List, Bool, true, None, Option}
 use Rattle.prelude.specs.Choice.{pick}
 use Rattle.schedule.specs.declared.BlastSchedule.{BlastSchedule}
 use Rattle.schedule.specs.declared.BlastSchedule.TheVariants.{Over}
 use Rattle.call_table.specs.Tables.{call_of}
 use Rattle.library_calls.specs.declared.Kept.{Kept}
-use Rattle.library_calls.specs.declared.budgets.Kept.{Kept as Budget}
-use Rattle.library_calls.specs.declared.budgets.Kept.TheVariants.{Unarmed}
 use Rattle.library_calls.specs.Messages.{messages_table, messages_text}
 use Rattle.library_calls.specs.Choices.{choices_table, choices_text}
 use Rattle.library_calls.specs.Budgets.{budgets_table, budget_after, budgets_text}
 use Rattle.library_calls.specs.Schedules.{schedules_table, schedule_after, schedules_text}
+use Rattle.budget.specs.declared.UpgradeBudget.{UpgradeBudget}
 
-abbrev pub keeping : Budget → BlastSchedule → Kept
+abbrev pub keeping : Option UpgradeBudget → BlastSchedule → Kept
 keeping budget schedule = record { budget = budget; schedule = schedule }
 
 abbrev pub nothing : Kept
-nothing = keeping Unarmed Over
+nothing = keeping None Over
 
 -- whether a line is one of these calls, what is kept after it, and its text
 pub record Turn : Type 0 where

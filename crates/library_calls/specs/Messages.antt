@@ -1,5 +1,5 @@
 -- Calls of `wire` and `message` (RULES.md, sections 2 to 5): each row's call, and what is answered to it.
-use Rattle.std.specs.Prelude.{ℕ, List, [], ◌∷◌, ◌++◌, length, take, replicate, get_or, ltb, eqb}
+use Rattle.std.specs.Prelude.{ℕ, List, [], ◌∷◌, ◌++◌, length, take, replicate, get_or, ltb, eqb, Err, None, Ok, Option, Result, Some}
 use Rattle.prelude.specs.Choice.{pick}
 use Rattle.text.specs.Words.{ascii}
 use Rattle.text.specs.Printed.{printed}
@@ -7,21 +7,16 @@ use Rattle.refusal.specs.Number.{number_of}
 use Rattle.wire.specs.Varint.{varint_of, encoded}
 use Rattle.wire.specs.Frame.{frame_of}
 use Rattle.wire.specs.Lists.{entries, broken}
-use Rattle.wire.specs.declared.Varint.{Varint}
-use Rattle.wire.specs.declared.Varint.TheVariants as varint
 use Rattle.wire.specs.declared.Frame.{Frame}
 use Rattle.wire.specs.declared.Frame.TheVariants as frame
 use Rattle.message.specs.Message.{decode_of, decode_into}
 use Rattle.message.specs.Encoding.{encode_of, encode_into}
 use Rattle.message.specs.declared.Kind.{Kind}
 use Rattle.message.specs.declared.Kind.TheVariants.{Connect, Sync}
-use Rattle.message.specs.declared.Decoded.{Decoded}
-use Rattle.message.specs.declared.Decoded.TheVariants as decoded
-use Rattle.message.specs.declared.Encoded.{Encoded}
-use Rattle.message.specs.declared.Encoded.TheVariants as sent
 use Rattle.call_table.specs.Tables.{call_of, bytes_in, none, says, shows, no_bytes_lem, answer_text}
 use Rattle.call_table.specs.declared.Said.{Said}
 use Rattle.call_table.specs.declared.Call.{Call}
+use Rattle.refusal.specs.declared.Refusal.{Refusal}
 
 unfoldable pub messages_table : List ℕ
 messages_table =
@@ -33,9 +28,9 @@ messages_table =
     ++ ascii "do=write kind=connect list=% room=#|size=# out=%|refused why=# out=%|bad\n"
     ++ ascii "do=write kind=sync list=% room=#|size=# out=%|refused why=# out=%|bad"
 
-abbrev pub varint_said : Varint → Said
-varint_said (varint.Value v next) = says 1 (v ∷ next ∷ 0 ∷ 0 ∷ 0 ∷ 0 ∷ [])
-varint_said varint.Malformed = says 2 none
+abbrev pub varint_said : Option (ℕ × ℕ) → Said
+varint_said (Some (v, next)) = says 1 (v ∷ next ∷ 0 ∷ 0 ∷ 0 ∷ 0 ∷ [])
+varint_said None = says 2 none
 
 -- the bytes shown are the first
 unfoldable pub encode_said : ℕ → Said
@@ -61,17 +56,17 @@ kind_place Connect = 0
 kind_place Sync = 1
 
 -- a message read, with the buffer after it; a buffer may have 8,192 bytes
-abbrev pub decoded_said : Decoded → ℕ → List ℕ → Said
-decoded_said (decoded.Message kind size) room buffer = shows 1 (kind_place kind ∷ size ∷ 0 ∷ room ∷ 0 ∷ 0 ∷ []) buffer
-decoded_said (decoded.Refused why) room buffer = shows 2 (number_of why ∷ 0 ∷ room ∷ 0 ∷ 0 ∷ 0 ∷ []) buffer
+abbrev pub decoded_said : Result (Kind × ℕ) Refusal → ℕ → List ℕ → Said
+decoded_said (Ok (kind, size)) room buffer = shows 1 (kind_place kind ∷ size ∷ 0 ∷ room ∷ 0 ∷ 0 ∷ []) buffer
+decoded_said (Err why) room buffer = shows 2 (number_of why ∷ 0 ∷ room ∷ 0 ∷ 0 ∷ 0 ∷ []) buffer
 
 unfoldable pub read_said : List ℕ → ℕ → Said
 read_said m room = pick (ltb 8192 room) (says 3 none) (decoded_said (decode_of m room) room (after (decode_into m (filler room))))
 
 -- a message written, with the buffer after it
-abbrev pub encoded_said : Encoded → ℕ → List ℕ → Said
-encoded_said (sent.Message size) room buffer = shows 1 (size ∷ 0 ∷ room ∷ 0 ∷ 0 ∷ 0 ∷ []) buffer
-encoded_said (sent.Refused why) room buffer = shows 2 (number_of why ∷ 0 ∷ room ∷ 0 ∷ 0 ∷ 0 ∷ []) buffer
+abbrev pub encoded_said : Result ℕ Refusal → ℕ → List ℕ → Said
+encoded_said (Ok size) room buffer = shows 1 (size ∷ 0 ∷ room ∷ 0 ∷ 0 ∷ 0 ∷ []) buffer
+encoded_said (Err why) room buffer = shows 2 (number_of why ∷ 0 ∷ room ∷ 0 ∷ 0 ∷ 0 ∷ []) buffer
 
 unfoldable pub write_said : Kind → List ℕ → ℕ → Said
 write_said kind s room = pick (ltb 8192 room) (says 3 none) (encoded_said (encode_of kind s room) room (after (encode_into kind s (filler room))))

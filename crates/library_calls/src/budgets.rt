@@ -8,29 +8,20 @@ ghost use Rattle.library_calls.specs.Budgets.{turned, armed_turn, begun_turn, du
 use budget::{UpgradeBudget, UpgradeStop};
 use call_table::Said;
 
-// Before the first arm there is no budget.
-#[derive(Clone, Copy)]
-pub enum Kept {
-    Unarmed,
-    Armed(UpgradeBudget),
-}
-
 // What is kept after a call, and what is said of it.
 #[derive(Clone, Copy)]
 pub struct Turn {
-    pub kept: Kept,
+    pub kept: Option<UpgradeBudget>,
     pub said: Said,
 }
 
 fn one_if(v: bool) -> u64
     ensures { result ≡ bit v }
 {
-    if v {
-        return 1;
-    }
-    0
+    if v { 1 } else { 0 }
 }
 
+#[tactic(auto, unfolding(crate::specs::Budgets::state_said))]
 fn state_said(b: UpgradeBudget) -> Said
     ensures { result ≡ state_said b }
 {
@@ -45,11 +36,12 @@ fn turned(b: UpgradeBudget, said: Said) -> Turn
     ensures { result ≡ turned b said }
 {
     Turn {
-        kept: Kept::Armed(b),
+        kept: Some(b),
         said: said,
     }
 }
 
+#[tactic(auto, unfolding(crate::specs::Budgets::begun_turn))]
 fn begun(b: UpgradeBudget, at: u64) -> Turn
     ensures { result ≡ begun_turn b at }
 {
@@ -65,69 +57,73 @@ fn begun(b: UpgradeBudget, at: u64) -> Turn
     )
 }
 
-fn due_said(stop: UpgradeStop) -> Said
+fn due_said(stop: Option<UpgradeStop>) -> Said
     ensures { result ≡ due_said stop }
 {
     match stop {
-        UpgradeStop::None => call_table::say(2, [0; 6]),
-        UpgradeStop::ExchangeTimeout { round, budget_ms } => {
+        None => call_table::say(2, [0; 6]),
+        Some(UpgradeStop::ExchangeTimeout { round, budget_ms }) => {
             call_table::say(3, [round as u64, budget_ms, 0, 0, 0, 0])
         }
-        UpgradeStop::UpgradeTimeout { budget_ms } => {
+        Some(UpgradeStop::UpgradeTimeout { budget_ms }) => {
             call_table::say(4, [budget_ms, 0, 0, 0, 0, 0])
         }
     }
 }
 
 // The calls but for an arm, on a budget.
+#[tactic(auto, unfolding(crate::specs::Budgets::armed_turn))]
 fn armed(b: UpgradeBudget, row: usize, at: u64) -> Turn
     ensures { result ≡ armed_turn b row at }
 {
-    if row == 1 {
-        return begun(b, at);
+    match row {
+        1 => begun(b, at),
+        2 => {
+            let next = b.end_exchange();
+            turned(next, state_said(next))
+        }
+        3 => {
+            let end = b.punch_window_end(at);
+            turned(b, call_table::say(2, [end, 0, 0, 0, 0, 0]))
+        }
+        _ => turned(b, due_said(b.due(at))),
     }
-    if row == 2 {
-        let next = b.end_exchange();
-        return turned(next, state_said(next));
-    }
-    if row == 3 {
-        let end = b.punch_window_end(at);
-        return turned(b, call_table::say(2, [end, 0, 0, 0, 0, 0]));
-    }
-    turned(b, due_said(b.due(at)))
 }
 
-fn kept_turn(kept: Kept, row: usize, at: u64) -> Turn
+fn kept_turn(kept: Option<UpgradeBudget>, row: usize, at: u64) -> Turn
     ensures { result ≡ kept_turn kept row at }
 {
     match kept {
-        Kept::Unarmed => Turn {
-            kept: Kept::Unarmed,
+        None => Turn {
+            kept: None,
             said: call_table::say(1, [0; 6]),
         },
-        Kept::Armed(b) => armed(b, row, at),
+        Some(b) => armed(b, row, at),
     }
 }
 
-fn respond(kept: Kept, row: usize, w: [u64; 8]) -> Turn
+#[tactic(auto, unfolding(crate::specs::Budgets::budget_turn))]
+fn respond(kept: Option<UpgradeBudget>, row: usize, w: [u64; 8]) -> Turn
     ensures { result ≡ budget_turn kept row w }
 {
-    if row == 0 {
-        let b = UpgradeBudget::arm(w[0], w[1], w[2], w[3]);
-        return turned(b, state_said(b));
+    match row {
+        0 => {
+            let b = UpgradeBudget::arm(w[0], w[1], w[2], w[3]);
+            turned(b, state_said(b))
+        }
+        _ => kept_turn(kept, row, w[0]),
     }
-    kept_turn(kept, row, w[0])
 }
 
 // Whether the line is one of these calls, what is kept, and where the answer ends in the buffer.
 #[derive(Clone, Copy)]
 pub struct Answered {
     pub found: bool,
-    pub kept: Kept,
+    pub kept: Option<UpgradeBudget>,
     pub end: usize,
 }
 
-fn answer_by(table: &[u8], kept: Kept, line: &[u8], out: &mut [u8]) -> Answered
+fn answer_by(table: &[u8], kept: Option<UpgradeBudget>, line: &[u8], out: &mut [u8]) -> Answered
     ensures found { result.found ≡ (call_of table.now line.now).found }
     ensures kept { result.kept ≡ (turn_by table.now kept line.now).kept }
     ensures bytes { out.new ≡ printed out.old 0 (text_by table.now kept line.now) }
@@ -154,7 +150,7 @@ fn answer_by(table: &[u8], kept: Kept, line: &[u8], out: &mut [u8]) -> Answered
 }
 
 // Answers a line that is one of these calls; another prints nothing and leaves what is kept.
-pub fn answer(kept: Kept, line: &[u8], out: &mut [u8]) -> Answered
+pub fn answer(kept: Option<UpgradeBudget>, line: &[u8], out: &mut [u8]) -> Answered
     ensures found { result.found ≡ (call_of budgets_table line.now).found }
     ensures kept { result.kept ≡ budget_after kept line.now }
     ensures bytes { out.new ≡ printed out.old 0 (budgets_text kept line.now) }

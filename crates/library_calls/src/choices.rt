@@ -5,26 +5,22 @@ ghost use Rattle.address.specs.Multiaddr.{parsed};
 ghost use Rattle.call_table.specs.Tables.{call_of};
 ghost use Rattle.library_calls.specs.Choices.{yes_said, eligible_said, selection_said, choice_said, text_by, choices_text, choices_table};
 
-use address::Parsed;
 use call_table::{Answered, Said};
 use candidates::{Limits, Selection, Terms};
-use vocabulary::Outcome;
 
 fn yes_said(yes: bool) -> Said
     ensures { result ≡ yes_said yes }
 {
-    if yes {
-        return call_table::say(1, [0; 6]);
-    }
-    call_table::say(2, [0; 6])
+    call_table::say(if yes { 1 } else { 2 }, [0; 6])
 }
 
+#[tactic(auto, unfolding(address::specs::Multiaddr::parsed))]
 fn eligible(private: bool, bytes: &[u8]) -> Said
     ensures { result ≡ eligible_said private (parsed bytes.now) }
 {
     match address::parse(bytes) {
-        Parsed::Address { ip, port: _ } => yes_said(address::eligible(ip, private)),
-        Parsed::Other => call_table::say(3, [0; 6]),
+        Some((ip, _)) => yes_said(address::eligible(ip, private)),
+        None => call_table::say(3, [0; 6]),
     }
 }
 
@@ -35,37 +31,30 @@ fn selection_said(s: Selection) -> Said
     let chosen = s.chosen;
     let kept = chosen.bytes;
     match outcome {
-        Outcome::Accepted => {
+        Ok(()) => {
             let mut bytes = call_table::no_bytes();
             wire::put_bytes(&kept, &mut bytes, 0);
             call_table::show(1, [0, chosen.len as u64, 0, 0, 0, 0], bytes)
         }
-        Outcome::Refused(why) => {
+        Err(why) => {
             let n = why.number();
             call_table::say(2, [n, 0, 0, 0, 0, 0])
         }
     }
 }
 
+#[tactic(auto, unfolding(crate::specs::Choices::choice_said))]
 fn respond(row: usize, bytes: &[u8]) -> Said
     ensures { result ≡ choice_said row bytes.now }
 {
-    if row == 0 {
-        return eligible(false, bytes);
+    match row {
+        0 => eligible(false, bytes),
+        1 => eligible(true, bytes),
+        2 => selection_said(candidates::select_punch_candidates(bytes, Terms::usual(false))),
+        3 => selection_said(candidates::select_punch_candidates(bytes, Terms::usual(true))),
+        4 => selection_said(candidates::own_punch_candidates(bytes, Limits::usual())),
+        _ => selection_said(candidates::bound_punch_candidates(bytes, Limits::usual())),
     }
-    if row == 1 {
-        return eligible(true, bytes);
-    }
-    if row == 2 {
-        return selection_said(candidates::select_punch_candidates(bytes, Terms::usual(false)));
-    }
-    if row == 3 {
-        return selection_said(candidates::select_punch_candidates(bytes, Terms::usual(true)));
-    }
-    if row == 4 {
-        return selection_said(candidates::own_punch_candidates(bytes, Limits::usual()));
-    }
-    selection_said(candidates::bound_punch_candidates(bytes, Limits::usual()))
 }
 
 fn answer_by(table: &[u8], line: &[u8], out: &mut [u8]) -> Answered

@@ -5,6 +5,7 @@ ghost use Rattle.std.specs.Prelude.{◌≡◌};
 ghost use Rattle.text.specs.Printed.{printed, behind};
 ghost use Rattle.library_calls.specs.Lines.{nothing, turn_of};
 
+use budget::UpgradeBudget;
 use schedule::BlastSchedule;
 
 pub mod budgets;
@@ -15,7 +16,7 @@ pub mod schedules;
 // What is kept from line to line.
 #[derive(Clone, Copy)]
 pub struct Kept {
-    pub budget: budgets::Kept,
+    pub budget: Option<UpgradeBudget>,
     pub schedule: BlastSchedule,
 }
 
@@ -24,7 +25,7 @@ pub fn nothing() -> Kept
     ensures { result ≡ nothing }
 {
     Kept {
-        budget: budgets::Kept::Unarmed,
+        budget: None,
         schedule: BlastSchedule::Over,
     }
 }

@@ -8,15 +8,17 @@ ghost use Rattle.call_table.specs.Tables.{call_of};
 ghost use Rattle.library_calls.specs.Messages.{varint_said, encode_said, frame_said, list_said, filler, kind_place, decoded_said, read_said, encoded_said, write_said, message_said, text_by, messages_text, messages_table};
 
 use call_table::{Answered, Said, Shown};
-use message::{Decoded, Encoded, Kind};
-use wire::{Frame, Varint};
+use message::Kind;
+use refusal::Refusal;
+use wire::Frame;
 
+#[tactic(auto, unfolding(wire::specs::Varint::varint_of))]
 fn varint(bytes: &[u8]) -> Said
     ensures { result ≡ varint_said (varint_of bytes.now) }
 {
     match wire::first_varint(bytes) {
-        Varint::Value { value, next } => call_table::say(1, [value, next as u64, 0, 0, 0, 0]),
-        Varint::Malformed => call_table::say(2, [0; 6]),
+        Some((value, next)) => call_table::say(1, [value, next as u64, 0, 0, 0, 0]),
+        None => call_table::say(2, [0; 6]),
     }
 }
 
@@ -39,32 +41,14 @@ fn frame(bytes: &[u8], count: u64) -> Said
     }
 }
 
-// How many addresses a list has, up to its end or break.
-fn count(list: &[u8]) -> usize
-    ensures { result ≡ length (entries list.now) }
-{
-    let mut at: usize = 0;
-    let mut n: usize = 0;
-    loop {
-        let e = wire::entry_at(list, at);
-        match e {
-            wire::Entry::End => return n,
-            wire::Entry::Broken => return n,
-            wire::Entry::Address { start: _, end } => {
-                n += 1;
-                at = end;
-            }
-        }
-    }
-}
-
+#[tactic(auto, unfolding(crate::specs::Messages::list_said))]
 fn list(bytes: &[u8]) -> Said
     ensures { result ≡ list_said bytes.now }
 {
     if wire::is_broken(bytes) {
         return call_table::say(2, [0; 6]);
     }
-    let n = count(bytes);
+    let n = wire::entries(bytes).count();
     call_table::say(1, [n as u64, 0, 0, 0, 0, 0])
 }
 
@@ -72,6 +56,7 @@ fn list(bytes: &[u8]) -> Said
 const ROOM: u64 = 8192;
 
 // Filled so that it shows what a call wrote.
+#[tactic(auto, unfolding(crate::specs::Messages::filler))]
 fn filled() -> Shown
     ensures { result ≡ filler 8192 }
 {
@@ -87,14 +72,14 @@ fn kind_place(kind: Kind) -> u64
     }
 }
 
-fn decoded_said(d: Decoded, room: u64, buffer: Shown) -> Said
+fn decoded_said(d: Result<(Kind, usize), Refusal>, room: u64, buffer: Shown) -> Said
     ensures { result ≡ decoded_said d room buffer }
 {
     match d {
-        Decoded::Message { kind, size } => {
+        Ok((kind, size)) => {
             call_table::show(1, [kind_place(kind), size as u64, 0, room, 0, 0], buffer)
         }
-        Decoded::Refused(why) => {
+        Err(why) => {
             let n = why.number();
             call_table::show(2, [n, 0, room, 0, 0, 0], buffer)
         }
@@ -114,12 +99,12 @@ fn read(bytes: &[u8], room: u64) -> Said
     decoded_said(d, room, buffer)
 }
 
-fn encoded_said(e: Encoded, room: u64, buffer: Shown) -> Said
+fn encoded_said(e: Result<usize, Refusal>, room: u64, buffer: Shown) -> Said
     ensures { result ≡ encoded_said e room buffer }
 {
     match e {
-        Encoded::Message(size) => call_table::show(1, [size as u64, 0, room, 0, 0, 0], buffer),
-        Encoded::Refused(why) => {
+        Ok(size) => call_table::show(1, [size as u64, 0, room, 0, 0, 0], buffer),
+        Err(why) => {
             let n = why.number();
             call_table::show(2, [n, 0, room, 0, 0, 0], buffer)
         }
@@ -139,28 +124,19 @@ fn write(kind: Kind, bytes: &[u8], room: u64) -> Said
     encoded_said(e, room, buffer)
 }
 
+#[tactic(auto, unfolding(crate::specs::Messages::message_said))]
 fn respond(row: usize, w: [u64; 8], bytes: &[u8]) -> Said
     ensures { result ≡ message_said row w bytes.now }
 {
-    if row == 0 {
-        return varint(bytes);
+    match row {
+        0 => varint(bytes),
+        1 => encode(w[0]),
+        2 => frame(bytes, w[2]),
+        3 => list(bytes),
+        4 => read(bytes, w[2]),
+        5 => write(Kind::Connect, bytes, w[2]),
+        _ => write(Kind::Sync, bytes, w[2]),
     }
-    if row == 1 {
-        return encode(w[0]);
-    }
-    if row == 2 {
-        return frame(bytes, w[2]);
-    }
-    if row == 3 {
-        return list(bytes);
-    }
-    if row == 4 {
-        return read(bytes, w[2]);
-    }
-    if row == 5 {
-        return write(Kind::Connect, bytes, w[2]);
-    }
-    write(Kind::Sync, bytes, w[2])
 }
 
 fn answer_by(table: &[u8], line: &[u8], out: &mut [u8]) -> Answered

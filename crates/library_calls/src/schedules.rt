@@ -33,6 +33,7 @@ fn next_at(s: BlastSchedule) -> u64
     }
 }
 
+#[tactic(auto, unfolding(crate::specs::Schedules::end_of))]
 fn window_end(start: u64, punch: u64, deadline: u64) -> u64
     ensures { result ≡ end_of start punch deadline }
 {
@@ -52,6 +53,7 @@ fn opened(start: u64, end: u64, d: NewlyDue) -> Turn
     }
 }
 
+#[tactic(auto, unfolding(crate::specs::Schedules::replied_turn))]
 fn replied(at: u64, rtt: u64, deadline: u64, punch: u64, interval: u64) -> Turn
     ensures { result ≡ replied_turn at rtt deadline punch interval }
 {

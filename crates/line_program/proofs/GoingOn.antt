@@ -78,10 +78,6 @@ unread line block r e m f =
       failing = f;
     }
 
-pub not_yet : (b : Bool) → not b ≡ true → b ≡ false
-not_yet true e = sym e
-not_yet false e = refl
-
 pub yet : (b : Bool) → not b ≡ false → b ≡ true
 yet true e = refl
 yet false e = sym e

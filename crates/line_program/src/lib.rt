@@ -28,7 +28,7 @@ fn fill(mut input: Stdin, block: &mut [u8], used: usize) -> Reading
 {
     match input.read(block) {
         Ok(n) => Reading {
-            used: used,
+            used,
             ended: false,
             more: 0 < n,
             failed: false,
@@ -36,7 +36,7 @@ fn fill(mut input: Stdin, block: &mut [u8], used: usize) -> Reading
             until: n,
         },
         Err(_) => Reading {
-            used: used,
+            used,
             ended: false,
             more: false,
             failed: true,
@@ -64,12 +64,12 @@ fn read_on(input: Stdin, block: &mut [u8], line: &mut [u8], s: Reading) -> Readi
         more: true,
         failed: false,
         from: g.next,
-        until: until,
+        until,
     }
 }
 
 // Reads the next line, up to its line feed or the input's end, where the block's bytes from `from` up to `until` come first. A proved
-// loop has to end, so it counts its turns down from a number that no line of fewer than 2^63 - 1 bytes uses up.
+// loop has to end, so its turns are counted, up to a number that no line of fewer than 2^63 - 1 bytes uses up.
 pub fn next_line(
     input: Stdin,
     block: &mut [u8],
@@ -81,19 +81,20 @@ pub fn next_line(
     ensures block { result.until ≤ length block.old }
     ensures read { NextLine line.old (left block.old from until) block.new line.new result }
 {
-    let stop = text::least(until, block.len());
+    let stop = until.min(block.len());
     let mut s = Reading {
         used: 0,
         ended: false,
         more: true,
         failed: false,
-        from: from,
+        from,
         until: stop,
     };
-    let mut turns = u64::MAX;
-    while 0 < turns && s.more && !s.ended {
+    for _turn in 0..u64::MAX {
+        if s.ended || !s.more {
+            return s;
+        }
         s = read_on(input, block, line, s);
-        turns -= 1;
     }
     s
 }
@@ -102,7 +103,7 @@ pub fn next_line(
 pub fn has_line(block: &[u8], from: usize, until: usize) -> bool
     ensures { result ≡ has_line (left block.now from until) }
 {
-    let stop = text::least(until, block.len());
+    let stop = until.min(block.len());
     if stop <= from {
         return false;
     }
@@ -132,25 +133,13 @@ pub struct Waiting {
 pub fn is_line(failed: bool, ended: bool, used: usize) -> bool
     ensures { result ≡ is_line failed ended used }
 {
-    if failed {
-        return false;
-    }
-    if ended {
-        return true;
-    }
-    0 < used
+    !failed && (ended || 0 < used)
 }
 
 fn has_room(size: usize, waiting: usize, room: usize) -> bool
     ensures { result ≡ leb (waiting + room) size }
 {
-    if size < waiting {
-        return false;
-    }
-    if room <= size - waiting {
-        return true;
-    }
-    false
+    waiting <= size && room <= size - waiting
 }
 
 // Whether what waits may stay: the next line needs no read, and `room` is left for what it prints.
@@ -164,10 +153,7 @@ fn may_stay(
 ) -> bool
     ensures { result ≡ stays room (has_line (left block.now from until)) size waiting }
 {
-    if has_line(block, from, until) {
-        return has_room(size, waiting, room);
-    }
-    false
+    has_line(block, from, until) && has_room(size, waiting, room)
 }
 
 // Writes what waits unless it may stay. Where nothing waits nothing is written, so that nothing fails.
@@ -183,21 +169,14 @@ pub fn hand_over(
     ensures bytes { result.bytes ≡ waiting_after room (has_line (left block.now from until)) out.now waiting }
     ensures written { waiting ≤ length out.now → handed_after room (has_line (left block.now from until)) out.now waiting ≡ [] → result.written ≡ true }
 {
-    if waiting == 0 {
+    if waiting == 0 || may_stay(block, from, until, out.len(), waiting, room) {
         return Waiting {
             bytes: waiting,
             written: true,
         };
     }
-    if may_stay(block, from, until, out.len(), waiting, room) {
-        return Waiting {
-            bytes: waiting,
-            written: true,
-        };
-    }
-    let written = print(output, out, waiting);
     Waiting {
         bytes: 0,
-        written: written,
+        written: print(output, out, waiting),
     }
 }

@@ -24,7 +24,7 @@ pub fn gather(block: &[u8], from: usize, line: &mut [u8], used: usize) -> Gather
 {
     if block.len() <= from {
         return Gathered {
-            used: used,
+            used,
             next: from,
             ended: false,
         };

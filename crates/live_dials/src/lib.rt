@@ -9,9 +9,10 @@ ghost use Rattle.ledger.specs.Ledger.{tables_of, laid, aborted_dials};
 ghost use Rattle.live_dials.specs.First.{is_peer, first_of, no_peer, live_of, first, firsts_of, first_live};
 ghost use Rattle.live_dials.specs.Asking.{asked_rows};
 
-use dials::{Dropped, First, FirstLive, Firsts};
+use dials::{Dropped, First, Firsts};
 use ids::{ConnectId, ConnectionId, PeerId};
 use rows::{Ledger, ROWS, Table};
+use std::array;
 
 // A live connection of a peer.
 #[derive(Clone, Copy)]
@@ -20,32 +21,22 @@ pub struct Live {
     pub connection: ConnectionId,
 }
 
-#[derive(Clone, Copy)]
-pub enum Found {
-    At(ConnectionId),
-    Nothing,
-}
-
 fn is_peer(l: Live, peer: PeerId) -> bool
     ensures { result ≡ is_peer l peer }
 {
-    let p = l.peer;
-    p.0 == peer.0
+    l.peer.0 == peer.0
 }
 
 // The connection of the first record that has the peer.
-pub fn first_live(live: &[Live], peer: PeerId) -> Found
+pub fn first_live(live: &[Live], peer: PeerId) -> Option<ConnectionId>
     ensures { result ≡ first_of live.now peer }
 {
-    let mut i = 0;
-    while i < live.len() {
-        let l = live[i];
-        if is_peer(l, peer) {
-            return Found::At(l.connection);
+    for l in live {
+        if is_peer(*l, peer) {
+            return Some(l.connection);
         }
-        i += 1;
     }
-    Found::Nothing
+    None
 }
 
 // The peers to ask for, one for each row.
@@ -54,43 +45,24 @@ pub struct Asked {
     pub peers: [PeerId; ROWS],
 }
 
-fn asked_at(a: Asked, k: usize) -> PeerId
-    requires { k < capacity }
-    ensures { result ≡ get_or a.peers k no_peer }
-{
-    a.peers[k]
-}
-
-fn live_of(x: Found) -> FirstLive
+fn live_of(x: Option<ConnectionId>) -> Option<ConnectionId>
     ensures { result ≡ live_of x }
 {
     match x {
-        Found::At(c) => FirstLive::At(c),
-        Found::Nothing => FirstLive::None,
+        Some(c) => Some(c),
+        None => None,
     }
-}
-
-fn put_first(mut f: Firsts, k: usize, x: Found) -> Firsts
-    requires { k < capacity }
-    ensures { result.rows ≡ set f.rows k (first x) }
-{
-    let r = First { live: live_of(x) };
-    f.rows[k] = r;
-    f
 }
 
 // The first live connection of each peer.
 pub fn first_lives(live: &[Live], asked: Asked) -> Firsts
     ensures { result ≡ firsts_of live.now asked }
 {
-    let mut f = dials::no_firsts();
-    let mut k = 0;
-    while k < ROWS {
-        let x = first_live(live, asked_at(asked, k));
-        f = put_first(f, k, x);
-        k += 1;
+    Firsts {
+        rows: array::from_fn(|k| First {
+            live: live_of(first_live(live, asked.peers[k])),
+        }),
     }
-    f
 }
 
 // The peer that each row of the dials asks for.
@@ -98,17 +70,15 @@ pub fn asked_rows(l: &Ledger, target: PeerId) -> Asked
     ensures { result ≡ asked_rows (rows_of Dials l.now) target }
 {
     let n = rows::used(l, Table::Dials);
-    let mut a = Asked {
-        peers: [target; ROWS],
-    };
-    let mut k = 0;
-    while k < n {
-        let r = rows::row_at(l, Table::Dials, k);
-        let p = dials::asked_of(r, target);
-        a.peers[k] = p;
-        k += 1;
+    Asked {
+        peers: array::from_fn(|k| {
+            if k < n {
+                dials::asked_of(rows::row_at(l, Table::Dials, k), target)
+            } else {
+                target
+            }
+        }),
     }
-    a
 }
 
 // Drops the dials of the attempt that connects to the target. A dial whose connection is its peer's first live one is not closed; a

@@ -45,33 +45,32 @@ left_ended k o p last = go (eqb k 0)
     go true h = absurd (false_true h.0)
     go false h = h.1
 
-pub left_end : (s : List ℕ) (at n k : ℕ) (o : List ℕ) (p : ℕ) (last : List ℕ) → length s ≤ at → Left (scan n k (drop at s)) o p last → o ≡ last
-left_end s at n k o p last h left = left_ended k o p last (subst (λ (x : Content). Left x o p last) (sc.scan_end s at n k h) left)
+pub left_end : (s : List ℕ) (n k : ℕ) (o : List ℕ) (p : ℕ) (last : List ℕ) → length s ≡ 0 → Left (scan n k s) o p last → o ≡ last
+left_end s n k o p last h left = left_ended k o p last (subst (λ (x : Content). Left x o p last) (sc.scan_end s n k h) left)
 
-module _ (s : List ℕ) (at : ℕ) {r : Field} (e : r ≡ field_of (take (length s - at) (drop at s))) (n k : ℕ) (fuel : length s ≤ n + at) (h : at < length s)
-    (o : List ℕ) (p : ℕ) (last : List ℕ) (left : Left (scan n k (drop at s)) o p last) where
-  by : {x : Content} → scan n k (drop at s) ≡ x → Left x o p last
+module _ (s : List ℕ) {r : Field} (e : r ≡ field_of s) (n k : ℕ) (fuel : length s ≤ n) (h : length s ≡ 0 → ⊥)
+    (o : List ℕ) (p : ℕ) (last : List ℕ) (left : Left (scan n k s) o p last) where
+  by : {x : Content} → scan n k s ≡ x → Left x o p last
   by q = subst (λ (y : Content). Left y o p last) q left
 
   pub left_malformed : r ≡ f.Malformed → ⊥
-  left_malformed d = false_true (by (sc.malformed s at e n k fuel h d)).0
+  left_malformed d = false_true (by (sc.malformed s e n k fuel h d)).0
 
-  pub left_typed : {v z : ℕ} → r ≡ f.Typed v z → Left (scan (n - 1) v (drop (at + z) s)) o p last
+  pub left_typed : {v z : ℕ} → r ≡ f.Typed v z → Left (scan (n - 1) v (drop z s)) o p last
   left_typed {v} {z} d = go (known v) refl
     where
-      go : (t : Bool) → known v ≡ t → Left (scan (n - 1) v (drop (at + z) s)) o p last
-      go true g = by (sc.typed s at e n k fuel h d g)
-      go false g = absurd (false_true (by (sc.wrong s at e n k fuel h d g)).0)
+      go : (t : Bool) → known v ≡ t → Left (scan (n - 1) v (drop z s)) o p last
+      go true g = by (sc.typed s e n k fuel h d g)
+      go false g = absurd (false_true (by (sc.wrong s e n k fuel h d g)).0)
 
-  pub left_other : {z : ℕ} → r ≡ f.Other z → Left (scan (n - 1) k (drop (at + z) s)) o p last
-  left_other d = by (sc.other s at e n k fuel h d)
+  pub left_other : {z : ℕ} → r ≡ f.Other z → Left (scan (n - 1) k (drop z s)) o p last
+  left_other d = by (sc.other s e n k fuel h d)
 
   -- the address as the code lends it
-  pub left_entry : {b l : ℕ} {x : List ℕ} → r ≡ f.Address b l → x ≡ sets o p (entry (take (at + b + l - (at + b)) (drop (at + b) s)))
-      → Left (scan (n - 1) k (drop (at + b + l) s)) x (p + (2 + l)) last
+  pub left_entry : {b l : ℕ} {x : List ℕ} → r ≡ f.Address b l → x ≡ sets o p (entry (take (b + l - b) (drop b s)))
+      → Left (scan (n - 1) k (drop (b + l) s)) x (p + (2 + l)) last
   left_entry {b} {l} d m =
-      let c : at + b + l ≡ at + (b + l) = omega arith in
-      let g : length (take l (drop (at + b) s)) ≡ l = sc.address_long s at e d in
-      rw (m, part_is s (at + b) l, ap (λ (i : ℕ). scan (n - 1) k (drop i s)) c)
-      (subst (λ (i : ℕ). Left (scan (n - 1) k (drop (at + (b + l)) s)) (sets o p (entry (take l (drop (at + b) s)))) (p + (2 + i)) last) g
-      (left_also (take l (drop (at + b) s)) (scan (n - 1) k (drop (at + (b + l)) s)) o p last (by (sc.address s at e n k fuel h d))))
+      let g : length (take l (drop b s)) ≡ l = sc.address_long s e d in
+      rw (m, part_is s b l)
+      (subst (λ (i : ℕ). Left (scan (n - 1) k (drop (b + l) s)) (sets o p (entry (take l (drop b s)))) (p + (2 + i)) last) g
+      (left_also (take l (drop b s)) (scan (n - 1) k (drop (b + l) s)) o p last (by (sc.address s e n k fuel h d))))

@@ -9,6 +9,7 @@ use lib.Dec.{ltb}
 use lib.ListN.{length, length-append}
 use lib.Seq.{sets}
 use borrow.Author.Tests.{lt-ltb, le-ltb, ltb-false}
+use Rattle.std.specs.Prelude.{Err, Ok, Result, ℕ}
 use Rattle.prelude.specs.Choice.{pick}
 use Rattle.refusal.specs.declared.Refusal.{Refusal}
 use Rattle.refusal.specs.declared.Refusal.TheVariants.{BrokenList, MessageTooLong, OutputTooShort}
@@ -21,9 +22,6 @@ use Rattle.message.specs.Encoding.{type_field, address_fields, message_bytes, se
 use Rattle.message.specs.declared.Kind.{Kind}
 use Rattle.message.specs.declared.Measured.{Measured}
 use Rattle.message.specs.declared.Measured.TheVariants as m
-use Rattle.message.specs.declared.Decoded.TheVariants as d
-use Rattle.message.specs.declared.Encoded.{Encoded}
-use Rattle.message.specs.declared.Encoded.TheVariants as e
 use Rattle.message.proofs.Scan.{list_long}
 
 -- ---- reading
@@ -38,12 +36,12 @@ refused_is (says j l) v e = let c : ◌≡◌ {A = ℕ} 0 1 = cc in absurd (omeg
 refused_is (refused u) v e = cc
 
 module _ (s o : List ℕ) where
-  pub read_long : max_message_size < length s → (d.Refused MessageTooLong ≡ decode_of s (length o)) × (o ≡ decode_into s o)
+  pub read_long : max_message_size < length s → (Err MessageTooLong ≡ decode_of s (length o)) × (o ≡ decode_into s o)
   unfolding decode_of decode_into
   read_long h = (rw (lt-ltb max_message_size (length s) h), rw (lt-ltb max_message_size (length s) h))
 
   module _ (h : length s ≤ max_message_size) {r : Measured} (e : r ≡ measured (content_of s)) where
-    pub read_refused : {v : Refusal} → r ≡ m.Refused v → (d.Refused v ≡ decode_of s (length o)) × (o ≡ decode_into s o)
+    pub read_refused : {v : Refusal} → r ≡ m.Refused v → (Err v ≡ decode_of s (length o)) × (o ≡ decode_into s o)
     unfolding decode_of decode_into
     read_refused {v} g =
         let x : content_of s ≡ refused v = refused_is (content_of s) v (sym g ∙ e) in
@@ -56,7 +54,7 @@ module _ (s o : List ℕ) where
       pub read_good : accepted (content_of s) ≡ true
       read_good = ap accepted the_message.0
 
-      pub read_short : length o < n → (d.Refused OutputTooShort ≡ decode_of s (length o)) × (o ≡ decode_into s o)
+      pub read_short : length o < n → (Err OutputTooShort ≡ decode_of s (length o)) × (o ≡ decode_into s o)
       unfolding decode_of decode_into
       read_short l =
           let c : length o < length (listed (addresses (content_of s))) = omega (arith, the_message.1) in
@@ -66,7 +64,7 @@ module _ (s o : List ℕ) where
           )
 
       pub read_done : n ≤ length o → {q : Kind} → q ≡ kind_of k → {x : List ℕ} → x ≡ sets o 0 (listed (addresses (content_of s)))
-          → (d.Message q n ≡ decode_of s (length o)) × (x ≡ decode_into s o)
+          → (Ok (q, n) ≡ decode_of s (length o)) × (x ≡ decode_into s o)
       unfolding decode_of decode_into
       read_done l {q} a {x} b =
           let c : length (listed (addresses (content_of s))) ≤ length o = omega (arith, the_message.1) in
@@ -95,22 +93,22 @@ message_adds k xs h = rw h (sym (message_long k xs))
 
 -- the size of m, the message of the list s: the room is never too short
 module _ (s m : List ℕ) {r : Bool} (q : r ≡ broken s) where
-  pub size_broken : r ≡ true → e.Refused BrokenList ≡ sent s m m max_message_size
+  pub size_broken : r ≡ true → Err BrokenList ≡ sent s m m max_message_size
   size_broken g = let x : broken s ≡ true = sym q ∙ g in rw x
 
-  pub size_long : r ≡ false → max_message_size < length m → e.Refused MessageTooLong ≡ sent s m m max_message_size
+  pub size_long : r ≡ false → max_message_size < length m → Err MessageTooLong ≡ sent s m m max_message_size
   size_long g h = let x : broken s ≡ false = sym q ∙ g in rw (x, lt-ltb max_message_size (length m) h)
 
-  pub size_good : r ≡ false → length m ≤ max_message_size → {n : ℕ} → n ≡ length m → e.Message n ≡ sent s m m max_message_size
+  pub size_good : r ≡ false → length m ≤ max_message_size → {n : ℕ} → n ≡ length m → Ok n ≡ sent s m m max_message_size
   size_good g h c = let x : broken s ≡ false = sym q ∙ g in rw (x, le-ltb max_message_size (length m) h, c)
 
 -- an answer that is a length: the list is not broken, the message m is short enough, and what is written of it, b, has room
-pub sent_is : (s m b : List ℕ) (room n : ℕ) → sent s m b room ≡ e.Message n
+pub sent_is : (s m b : List ℕ) (room n : ℕ) → sent s m b room ≡ Ok n
     → (broken s ≡ false) × (length m ≤ max_message_size) × (length b ≤ room) × (n ≡ length b)
 sent_is s m b room n h = go (broken s) refl (ltb max_message_size (length m)) refl (ltb room (length b)) refl h
   where
     go : (p : Bool) → broken s ≡ p → (q : Bool) → ltb max_message_size (length m) ≡ q → (r : Bool) → ltb room (length b) ≡ r
-        → pick p (e.Refused BrokenList) (pick q (e.Refused MessageTooLong) (pick r (e.Refused OutputTooShort) (e.Message (length b)))) ≡ e.Message n
+        → pick p (Err BrokenList) (pick q (Err MessageTooLong) (pick r (Err OutputTooShort) (Ok (length b)))) ≡ Ok n
         → (broken s ≡ false) × (length m ≤ max_message_size) × (length b ≤ room) × (n ≡ length b)
     go true i q j r l h = let c : ◌≡◌ {A = ℕ} 0 1 = cc in absurd (omega arith)
     go false i true j r l h = let c : ◌≡◌ {A = ℕ} 0 1 = cc in absurd (omega arith)
@@ -118,29 +116,29 @@ sent_is s m b room n h = go (broken s) refl (ltb max_message_size (length m)) re
     go false i false j false l h = (i, ltb-false max_message_size (length m) j, ltb-false room (length b) l, cc)
 
 -- the same of the size of m
-pub size_is : (s m : List ℕ) {r : Encoded} {n : ℕ} → r ≡ sent s m m max_message_size → r ≡ e.Message n → (length m ≤ max_message_size) × (n ≡ length m)
+pub size_is : (s m : List ℕ) {r : Result ℕ Refusal} {n : ℕ} → r ≡ sent s m m max_message_size → r ≡ Ok n → (length m ≤ max_message_size) × (n ≡ length m)
 size_is s m {r} {n} q g = let w = sent_is s m m max_message_size n (sym q ∙ g) in (w.1, w.3)
 
 -- of the list s, whose message m has the size r: the answer where b is written of it
-module _ (s m b o : List ℕ) {r : Encoded} (q : r ≡ sent s m m max_message_size) where
-  pub write_refused : {v : Refusal} → r ≡ e.Refused v → (e.Refused v ≡ sent s m b (length o)) × (o ≡ sent_into s m b o)
+module _ (s m b o : List ℕ) {r : Result ℕ Refusal} (q : r ≡ sent s m m max_message_size) where
+  pub write_refused : {v : Refusal} → r ≡ Err v → (Err v ≡ sent s m b (length o)) × (o ≡ sent_into s m b o)
   write_refused {v} g = go (broken s) (ltb max_message_size (length m)) (sym g ∙ q)
     where
-      go : (x y : Bool) → e.Refused v ≡ pick x (e.Refused BrokenList) (pick y (e.Refused MessageTooLong) (pick y (e.Refused OutputTooShort) (e.Message (length m))))
-          → (e.Refused v ≡ pick x (e.Refused BrokenList) (pick y (e.Refused MessageTooLong) (pick (ltb (length o) (length b)) (e.Refused OutputTooShort) (e.Message (length b)))))
+      go : (x y : Bool) → Err v ≡ pick x (Err BrokenList) (pick y (Err MessageTooLong) (pick y (Err OutputTooShort) (Ok (length m))))
+          → (Err v ≡ pick x (Err BrokenList) (pick y (Err MessageTooLong) (pick (ltb (length o) (length b)) (Err OutputTooShort) (Ok (length b)))))
           × (o ≡ pick x o (pick y o (pick (ltb (length o) (length b)) o (over b o))))
       go true y h = (h, refl)
       go false true h = (h, refl)
       go false false h = let c : ◌≡◌ {A = ℕ} 0 1 = cc in absurd (omega arith)
 
-  module _ {n : ℕ} (g : r ≡ e.Message n) where
+  module _ {n : ℕ} (g : r ≡ Ok n) where
     tests : (broken s ≡ false) × (ltb max_message_size (length m) ≡ false)
     tests = let w = sent_is s m m max_message_size n (sym q ∙ g) in (w.0, le-ltb max_message_size (length m) w.1)
 
-    pub write_short : length o < length b → (e.Refused OutputTooShort ≡ sent s m b (length o)) × (o ≡ sent_into s m b o)
+    pub write_short : length o < length b → (Err OutputTooShort ≡ sent s m b (length o)) × (o ≡ sent_into s m b o)
     write_short l = let t = lt-ltb (length o) (length b) l in (rw (tests.0, tests.1, t), rw (tests.0, tests.1, t))
 
-    pub write_done : length b ≤ length o → {l : ℕ} {w : List ℕ} → l ≡ length b → w ≡ sets o 0 b → (e.Message l ≡ sent s m b (length o)) × (w ≡ sent_into s m b o)
+    pub write_done : length b ≤ length o → {l : ℕ} {w : List ℕ} → l ≡ length b → w ≡ sets o 0 b → (Ok l ≡ sent s m b (length o)) × (w ≡ sent_into s m b o)
     write_done h c j = let t = le-ltb (length o) (length b) h in (rw (tests.0, tests.1, t, c), j ∙ sets_front o b h ∙ sym (rw (tests.0, tests.1, t)))
 
 -- a frame's length and message, one behind the other

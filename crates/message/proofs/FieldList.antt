@@ -2,16 +2,16 @@
 -- Assumes nothing.
 use mathlib.Core.Path.{◌≡◌, refl, sym, ap, ◌∙◌}
 use mathlib.Core.List.{List, [], ◌∷◌, ◌++◌}
-use Prim.Native.Nat.{ℕ, ◌+◌, ◌-◌, ◌*◌, ◌≤◌}
+use Prim.Native.Nat.{ℕ, ◌+◌, ◌*◌, ◌≤◌}
 use native.Mathlib.Numerals.{add-one}
 use native.Mathlib.Omega.{arith}
-use lib.ListN.{length, take, drop, set, length-append, length-take, length-drop}
+use lib.ListN.{length, set, length-append}
 use lib.Seq.{sets}
 use Rattle.wire.specs.Varint.{encoded}
-use Rattle.wire.specs.Lists.{entries}
+use Rattle.wire.specs.Lists.{entries, entry, listed}
 use Rattle.wire.proofs.Stores.{sets_append, parts_stored}
 use Rattle.wire.proofs.VarintAgain.{groups_short}
-use Rattle.wire.proofs.Entries.{AddressAt, entries_address}
+use Rattle.wire.proofs.EntryByEntry.{entries_fit}
 use Rattle.message.specs.Encoding.{type_field, address_field, address_fields}
 
 pub field_long : (a : List ℕ) → length (address_field a) ≡ 1 + length (encoded (length a)) + length a
@@ -34,65 +34,44 @@ type_stored o at v e = e ∙ rw (add-one at)
 
 -- ---- along a list
 
--- size bytes for the addresses before `at`
-pub record Counted (s : List ℕ) (at size : ℕ) : Type 0 where
-  pub inside : at ≤ length s
-  pub small : size ≤ 2 * at
-  pub sum : size + length (address_fields (entries (drop at s))) ≡ length (address_fields (entries s))
+-- a list's addresses take at most twice as many bytes as fields
+fields_fit : (xs : List (List ℕ)) → length (address_fields xs) ≤ 2 * length (listed xs)
+unfolding address_fields listed
+fields_fit [] = omega arith
+fields_fit (a ∷ xs) = omega (arith, fields_more a xs, field_long a, groups_short 9 (length a), length-append (entry a) (listed xs), fields_fit xs)
 
-pub count_none : (s : List ℕ) → Counted s 0 0
-count_none s = record { inside = omega arith; small = omega arith; sum = omega arith }
+pub fields_bound : (s : List ℕ) → length (address_fields (entries s)) ≤ 2 * length s
+fields_bound s = omega (arith, fields_fit (entries s), entries_fit s)
 
--- the bytes of the address from b to e, as the code lends it
-pub lent_long : (s : List ℕ) (at : ℕ) {b e : ℕ} → AddressAt s at b e → length (take (e - b) (drop b s)) ≡ e - b
-lent_long s at w = simp (length-take, length-drop) (omega arith)
+pub count_more : (size total : ℕ) {left others : List (List ℕ)} {a : List ℕ} → left ≡ a ∷ others → size + length (address_fields left) ≡ total
+    → size + length (address_field a) + length (address_fields others) ≡ total
+count_more size total {others = others} {a = a} w h = omega (arith, h, ap (λ (xs : List (List ℕ)). length (address_fields xs)) w, fields_more a others)
 
-module _ (s : List ℕ) (at : ℕ) {b e : ℕ} (w : AddressAt s at b e) where
-  the_field : length (address_field (take (e - b) (drop b s))) ≡ 1 + length (encoded (e - b)) + (e - b)
-  the_field = field_long (take (e - b) (drop b s)) ∙ ap (λ (n : ℕ). 1 + length (encoded n) + n) (lent_long s at w)
-
-  fields_on : length (address_fields (entries (drop at s))) ≡ 1 + length (encoded (e - b)) + (e - b) + length (address_fields (entries (drop e s)))
-  fields_on =
-      ap (λ (xs : List (List ℕ)). length (address_fields xs)) (entries_address s at w)
-      ∙ fields_more (take (e - b) (drop b s)) (entries (drop e s))
-      ∙ ap (λ (n : ℕ). n + length (address_fields (entries (drop e s)))) the_field
-
-  pub field_small : 1 + length (encoded (e - b)) + (e - b) ≤ 2 * (e - at)
-  field_small = omega (arith, groups_short 9 (e - b))
-
-  pub count_more : {size l : ℕ} → Counted s at size → l ≡ length (encoded (e - b)) → Counted s e (size + (1 + l + (e - b)))
-  count_more {size} {l} h q = record { inside = omega arith; small = omega (arith, field_small); sum = omega (arith, fields_on, q, h.sum) }
-
-pub count_all : (s : List ℕ) (at size : ℕ) → Counted s at size → entries (drop at s) ≡ [] → size ≡ length (address_fields (entries s))
+pub count_all : (size total : ℕ) {left : List (List ℕ)} → left ≡ [] → size + length (address_fields left) ≡ total → size ≡ total
 unfolding address_fields
-count_all s at size h e = omega (arith, ap (λ (xs : List (List ℕ)). length (address_fields xs)) e, h.sum)
+count_all size total w h = omega (arith, h, ap (λ (xs : List (List ℕ)). length (address_fields xs)) w)
 
--- storing the fields of the addresses from `at` on, from place p on, gives last; then size bytes of the buffer are passed
-pub record Storing (s : List ℕ) (at : ℕ) (o : List ℕ) (p : ℕ) (last : List ℕ) (size : ℕ) : Type 0 where
-  pub inside : at ≤ length s
-  pub gives : sets o p (address_fields (entries (drop at s))) ≡ last
-  pub sum : p + length (address_fields (entries (drop at s))) ≡ size
+-- storing the fields of the addresses left, from place p on, gives last; then size bytes of the buffer are passed
+pub record Storing (left : List (List ℕ)) (o : List ℕ) (p : ℕ) (last : List ℕ) (size : ℕ) : Type 0 where
+  pub gives : sets o p (address_fields left) ≡ last
+  pub sum : p + length (address_fields left) ≡ size
 
-pub store_none : (s o : List ℕ) (p : ℕ) → Storing s 0 o p (sets o p (address_fields (entries s))) (p + length (address_fields (entries s)))
-store_none s o p = record { inside = omega arith; gives = refl; sum = refl }
+pub store_none : (all : List (List ℕ)) (o : List ℕ) (p : ℕ) → Storing all o p (sets o p (address_fields all)) (p + length (address_fields all))
+store_none all o p = record { gives = refl; sum = refl }
 
-module _ (s : List ℕ) (at : ℕ) (o : List ℕ) (p : ℕ) (last : List ℕ) (size : ℕ) (h : Storing s at o p last size) where
-  pub store_room : {b e : ℕ} → AddressAt s at b e → p + (1 + length (encoded (e - b)) + (e - b)) ≤ size
-  store_room w = omega (arith, fields_on s at w, h.sum)
+module _ {left others : List (List ℕ)} {a : List ℕ} {o : List ℕ} {p : ℕ} {last : List ℕ} {size : ℕ} (w : left ≡ a ∷ others) (h : Storing left o p last size) where
+  room : p + length (address_field a) + length (address_fields others) ≡ size
+  room = omega (arith, h.sum, ap (λ (xs : List (List ℕ)). length (address_fields xs)) w, fields_more a others)
 
-  pub store_more : {b e l : ℕ} {x : List ℕ} → AddressAt s at b e → l ≡ length (encoded (e - b)) → x ≡ sets o p (address_field (take (e - b) (drop b s)))
-      → Storing s e x (p + (1 + l + (e - b))) last size
+  pub store_room : p + length (address_field a) ≤ size
+  store_room = omega (arith, room)
+
+  pub store_more : {x : List ℕ} → x ≡ sets o p (address_field a) → Storing others x (p + length (address_field a)) last size
   unfolding address_fields
-  store_more {b} {e} {l} w q m =
-      let a = take (e - b) (drop b s) in
-      let k : p + (1 + l + (e - b)) ≡ p + length (address_field a) = omega (arith, the_field s at w, q) in
-      let g : sets o p (address_field a ++ address_fields (entries (drop e s))) ≡ last = ap (λ (xs : List (List ℕ)). sets o p (address_fields xs)) (sym (entries_address s at w)) ∙ h.gives in
-      record {
-        inside = w.inside;
-        gives = rw (m, k) (sym (sets_append o p (address_field a) (address_fields (entries (drop e s)))) ∙ g);
-        sum = omega (arith, fields_on s at w, h.sum, q);
-      }
+  store_more m =
+      let g : sets o p (address_field a ++ address_fields others) ≡ last = ap (λ (xs : List (List ℕ)). sets o p (address_fields xs)) (sym w) ∙ h.gives in
+      record { gives = rw m (sym (sets_append o p (address_field a) (address_fields others)) ∙ g); sum = room }
 
-  pub store_all : entries (drop at s) ≡ [] → o ≡ last
-  unfolding address_fields
-  store_all e = sym (ap (λ (xs : List (List ℕ)). sets o p (address_fields xs)) e) ∙ h.gives
+pub store_all : {left : List (List ℕ)} {o : List ℕ} {p : ℕ} {last : List ℕ} {size : ℕ} → left ≡ [] → Storing left o p last size → o ≡ last
+unfolding address_fields
+store_all {o = o} {p = p} w h = sym (ap (λ (xs : List (List ℕ)). sets o p (address_fields xs)) w) ∙ h.gives

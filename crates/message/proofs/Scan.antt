@@ -8,12 +8,11 @@ use native.Mathlib.Omega.{arith}
 use lib.Dec.{ltb, leb, eqb}
 use lib.ListN.{length, take, drop, length-append, length-take, length-drop, drop_of_length-le}
 use lib.Seq.{drop-drop}
-use borrow.Author.Tests.{eq-eqb, ne_eqb, leb-true}
+use borrow.Author.Tests.{eq-eqb, ne_eqb, eqb-true, eqb-false, leb-true}
+use Rattle.std.specs.Prelude.{None, Option, Some, ℕ}
 use Rattle.prelude.specs.Choice.{pick}
 use Rattle.wire.specs.Varint.{varint_of}
-use Rattle.wire.specs.declared.Varint.{Varint}
-use Rattle.wire.specs.declared.Varint.TheVariants.{Value, Malformed}
-use Rattle.wire.proofs.Spans.{varint_size, rest_of}
+use Rattle.wire.proofs.Spans.{varint_size}
 use Rattle.wire.specs.Lists.{entry, listed}
 use Rattle.protobuf.specs.Fields.{max_field, varint_field, fixed_field, bytes_field, payload_of, tagged, field_of}
 use Rattle.message.specs.Message.{Content, says, refused, also, known, ended, step, scan, content_of, addresses, measured}
@@ -36,22 +35,22 @@ pick_within : (n : ℕ) (t : Bool) (x y : Field) → (t ≡ true → Within n x)
 pick_within n true x y p q = p refl
 pick_within n false x y p q = q refl
 
-varint_within : (n t : ℕ) (s : List ℕ) → 0 < t → (r : Varint) → r ≡ varint_of s → Within (t + length s) (varint_field n t r)
-varint_within n t s h (Value v k) e =
+varint_within : (n t : ℕ) (s : List ℕ) → 0 < t → (r : Option (ℕ × ℕ)) → r ≡ varint_of s → Within (t + length s) (varint_field n t r)
+varint_within n t s h (Some (v, k)) e =
     let q = varint_size s v k e in
     pick_within (t + length s) (eqb n 1) (f.Typed v (t + k)) (f.Other (t + k)) (λ _. omega arith) (λ _. omega arith)
-varint_within n t s h Malformed e = tt
+varint_within n t s h None e = tt
 
 fixed_within : (k t : ℕ) (s : List ℕ) → 0 < t → Within (t + length s) (fixed_field k t s)
 fixed_within k t s h = pick_within (t + length s) (leb k (length s)) (f.Other (t + k)) f.Malformed (λ e. omega (arith, leb-true k (length s) e)) (λ _. tt)
 
-bytes_within : (n t : ℕ) (s : List ℕ) → 0 < t → (r : Varint) → r ≡ varint_of s → Within (t + length s) (bytes_field n t s r)
-bytes_within n t s h (Value v k) e =
+bytes_within : (n t : ℕ) (s : List ℕ) → 0 < t → (r : Option (ℕ × ℕ)) → r ≡ varint_of s → Within (t + length s) (bytes_field n t s r)
+bytes_within n t s h (Some (v, k)) e =
     let q = varint_size s v k e in
     pick_within (t + length s) (leb (k + v) (length s)) (pick (eqb n 2) (f.Address (t + k) v) (f.Other (t + k + v))) f.Malformed
     (λ e. let l = leb-true (k + v) (length s) e in pick_within (t + length s) (eqb n 2) (f.Address (t + k) v) (f.Other (t + k + v)) (λ _. omega arith) (λ _. omega arith))
     (λ _. tt)
-bytes_within n t s h Malformed e = tt
+bytes_within n t s h None e = tt
 
 payload_within : (n w t : ℕ) (s : List ℕ) → 0 < t → Within (t + length s) (payload_of n w t s)
 payload_within n w t s h =
@@ -61,61 +60,72 @@ payload_within n w t s h =
     (λ _. pick_within z (eqb w 2) _ _ (λ _. bytes_within n t s h (varint_of s) refl)
     (λ _. pick_within z (eqb w 5) _ _ (λ _. fixed_within _ t s h) (λ _. tt))))
 
-tagged_within : (s : List ℕ) (r : Varint) → r ≡ varint_of s → Within (length s) (tagged s r)
-tagged_within s (Value v t) e =
+tagged_within : (s : List ℕ) (r : Option (ℕ × ℕ)) → r ≡ varint_of s → Within (length s) (tagged s r)
+tagged_within s (Some (v, t)) e =
     let q = varint_size s v t e in
     let z : t + length (drop t s) ≡ length s = simp length-drop (omega arith) in
     let p : Within (length s) (payload_of (v / 8) (v % 8) t (drop t s)) = subst (λ (n : ℕ). Within n (payload_of (v / 8) (v % 8) t (drop t s))) z (payload_within (v / 8) (v % 8) t (drop t s) q.0) in
     pick_within (length s) (eqb (v / 8) 0) _ _ (λ _. tt) (λ _. pick_within (length s) (ltb max_field (v / 8)) _ _ (λ _. tt) (λ _. p))
-tagged_within s Malformed e = tt
+tagged_within s None e = tt
 
 pub field_within : (s : List ℕ) → Within (length s) (field_of s)
 unfolding field_of
 field_within s = tagged_within s (varint_of s) refl
 
--- ---- one turn, at a place of s
+-- ---- one turn, where s is left
 
-module _ (s : List ℕ) (at : ℕ) {r : Field} (e : r ≡ field_of (take (length s - at) (drop at s))) where
-  this : r ≡ field_of (drop at s)
-  this = e ∙ ap field_of (rest_of s at)
+pub some_left : (n : ℕ) {b : Bool} → b ≡ eqb n 0 → b ≡ false → n ≡ 0 → ⊥
+some_left n e h = eqb-false n 0 (sym e ∙ h)
 
-  pub sized : (x : Field) → r ≡ x → Within (length s - at) x
-  sized x d = subst (λ (n : ℕ). Within n x) (length-drop at s) (subst (λ (y : Field). Within (length (drop at s)) y) (sym this ∙ d) (field_within (drop at s)))
+pub none_left : (n : ℕ) {b : Bool} → b ≡ eqb n 0 → b ≡ true → n ≡ 0
+none_left n e h = eqb-true n 0 (sym e ∙ h)
+
+module _ (s : List ℕ) {r : Field} (e : r ≡ field_of s) where
+  pub sized : (x : Field) → r ≡ x → Within (length s) x
+  sized x d = subst (λ (y : Field). Within (length s) y) (sym e ∙ d) (field_within s)
+
+  pub typed_within : {v z : ℕ} → r ≡ f.Typed v z → (0 < z) × (z ≤ length s)
+  typed_within {v} {z} d = sized (f.Typed v z) d
+
+  pub address_within : {b l : ℕ} → r ≡ f.Address b l → (2 ≤ b) × (b + l ≤ length s)
+  address_within {b} {l} d = sized (f.Address b l) d
+
+  pub other_within : {z : ℕ} → r ≡ f.Other z → (0 < z) × (z ≤ length s)
+  other_within {z} d = sized (f.Other z) d
 
   -- an address has the bytes that its length says
-  pub address_long : {b l : ℕ} → r ≡ f.Address b l → length (take l (drop (at + b) s)) ≡ l
+  pub address_long : {b l : ℕ} → r ≡ f.Address b l → length (take l (drop b s)) ≡ l
   address_long {b} {l} d = let z = sized (f.Address b l) d in simp (length-take, length-drop) (omega arith)
 
-  module _ (n k : ℕ) (fuel : length s ≤ n + at) (h : at < length s) where
-    turn : scan n k (drop at s) ≡ step (scan (n - 1)) k (drop at s) r
+  module _ (n k : ℕ) (fuel : length s ≤ n) (h : length s ≡ 0 → ⊥) where
+    turn : scan n k s ≡ step (scan (n - 1)) k s r
     unfolding scan
     turn =
-        let p : n ≡ suc (n - 1) = omega arith in
-        let q : length (drop at s) ≡ 0 → ⊥ = simp length-drop (omega arith) in
-        ap (λ (x : ℕ). scan x k (drop at s)) p ∙ rw (ne_eqb (length (drop at s)) 0 q, this)
+        let p : n ≡ suc (n - 1) = omega (arith, h) in
+        ap (λ (x : ℕ). scan x k s) p ∙ rw (ne_eqb (length s) 0 h, e)
 
-    pub malformed : r ≡ f.Malformed → scan n k (drop at s) ≡ refused why.Malformed
+    pub malformed : r ≡ f.Malformed → scan n k s ≡ refused why.Malformed
     malformed d = turn ∙ rw d
 
-    pub typed : {v z : ℕ} → r ≡ f.Typed v z → known v ≡ true → scan n k (drop at s) ≡ scan (n - 1) v (drop (at + z) s)
-    typed {v} {z} d t = turn ∙ rw (d, t, drop-drop z at s)
+    pub typed : {v z : ℕ} → r ≡ f.Typed v z → known v ≡ true → scan n k s ≡ scan (n - 1) v (drop z s)
+    typed {v} {z} d t = turn ∙ rw (d, t)
 
-    pub wrong : {v z : ℕ} → r ≡ f.Typed v z → known v ≡ false → scan n k (drop at s) ≡ refused why.WrongType
+    pub wrong : {v z : ℕ} → r ≡ f.Typed v z → known v ≡ false → scan n k s ≡ refused why.WrongType
     wrong {v} {z} d t = turn ∙ rw (d, t)
 
-    pub address : {b l : ℕ} → r ≡ f.Address b l → scan n k (drop at s) ≡ also (take l (drop (at + b) s)) (scan (n - 1) k (drop (at + (b + l)) s))
-    address {b} {l} d = turn ∙ rw (d, drop-drop b at s, drop-drop (b + l) at s)
+    pub address : {b l : ℕ} → r ≡ f.Address b l → scan n k s ≡ also (take l (drop b s)) (scan (n - 1) k (drop (b + l) s))
+    address {b} {l} d = turn ∙ rw d
 
-    pub other : {z : ℕ} → r ≡ f.Other z → scan n k (drop at s) ≡ scan (n - 1) k (drop (at + z) s)
-    other {z} d = turn ∙ rw (d, drop-drop z at s)
+    pub other : {z : ℕ} → r ≡ f.Other z → scan n k s ≡ scan (n - 1) k (drop z s)
+    other {z} d = turn ∙ rw d
+
+pub scan_end : (s : List ℕ) (n k : ℕ) → length s ≡ 0 → scan n k s ≡ ended k
+unfolding scan
+scan_end s zero k h = refl
+scan_end s (suc n) k h = rw (eq-eqb (length s) 0 h)
 
 pub scan_nil : (n k : ℕ) → scan n k [] ≡ ended k
-unfolding scan
-scan_nil zero k = refl
-scan_nil (suc n) k = refl
-
-pub scan_end : (s : List ℕ) (at n k : ℕ) → length s ≤ at → scan n k (drop at s) ≡ ended k
-scan_end s at n k h = rw (drop_of_length-le s h) (scan_nil n k)
+scan_nil n k = scan_end [] n k refl
 
 -- ---- what is measured
 

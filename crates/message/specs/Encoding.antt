@@ -1,5 +1,5 @@
 -- Messages written (RULES.md, section 3).
-use Rattle.std.specs.Prelude.{ℕ, List, [], ◌∷◌, ◌++◌, length, ltb}
+use Rattle.std.specs.Prelude.{ℕ, List, [], ◌∷◌, ◌++◌, length, ltb, Err, Ok, Result}
 use Rattle.prelude.specs.Choice.{pick}
 use Rattle.refusal.specs.declared.Refusal.TheVariants.{BrokenList, MessageTooLong, OutputTooShort}
 use Rattle.wire.specs.Varint.{encoded}
@@ -7,8 +7,7 @@ use Rattle.wire.specs.Frame.{max_message_size, framed}
 use Rattle.wire.specs.Lists.{entries, broken}
 use Rattle.message.specs.Message.{type_number, over}
 use Rattle.message.specs.declared.Kind.{Kind}
-use Rattle.message.specs.declared.Encoded.{Encoded}
-use Rattle.message.specs.declared.Encoded.TheVariants.{Message, Refused}
+use Rattle.refusal.specs.declared.Refusal.{Refusal}
 
 -- field 1 as a varint, and field 2 as bytes
 abbrev pub type_field : ℕ → List ℕ
@@ -26,18 +25,18 @@ abbrev pub message_bytes : Kind → List (List ℕ) → List ℕ
 message_bytes k xs = type_field (type_number k) ++ address_fields xs
 
 -- the answer for a list s, whose message is m: the bytes b, m itself or its frame, where there is so much room
-abbrev pub sent : List ℕ → List ℕ → List ℕ → ℕ → Encoded
+abbrev pub sent : List ℕ → List ℕ → List ℕ → ℕ → Result ℕ Refusal
 sent s m b room =
-    pick (broken s) (Refused BrokenList)
-    (pick (ltb max_message_size (length m)) (Refused MessageTooLong)
-    (pick (ltb room (length b)) (Refused OutputTooShort) (Message (length b))))
+    pick (broken s) (Err BrokenList)
+    (pick (ltb max_message_size (length m)) (Err MessageTooLong)
+    (pick (ltb room (length b)) (Err OutputTooShort) (Ok (length b))))
 
 -- the buffer after it
 abbrev pub sent_into : List ℕ → List ℕ → List ℕ → List ℕ → List ℕ
 sent_into s m b out =
     pick (broken s) out (pick (ltb max_message_size (length m)) out (pick (ltb (length out) (length b)) out (over b out)))
 
-unfoldable pub encode_of : Kind → List ℕ → ℕ → Encoded
+unfoldable pub encode_of : Kind → List ℕ → ℕ → Result ℕ Refusal
 encode_of k s room = sent s (message_bytes k (entries s)) (message_bytes k (entries s)) room
 
 unfoldable pub encode_into : Kind → List ℕ → List ℕ → List ℕ
@@ -47,7 +46,7 @@ encode_into k s out = sent_into s (message_bytes k (entries s)) (message_bytes k
 abbrev pub frame_bytes : Kind → List (List ℕ) → List ℕ
 frame_bytes k xs = framed (message_bytes k xs)
 
-unfoldable pub frame_encode_of : Kind → List ℕ → ℕ → Encoded
+unfoldable pub frame_encode_of : Kind → List ℕ → ℕ → Result ℕ Refusal
 frame_encode_of k s room = sent s (message_bytes k (entries s)) (frame_bytes k (entries s)) room
 
 unfoldable pub frame_encode_into : Kind → List ℕ → List ℕ → List ℕ

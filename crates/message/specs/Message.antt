@@ -1,5 +1,5 @@
 -- Messages read (RULES.md, section 3).
-use Rattle.std.specs.Prelude.{ℕ, zero, suc, ◌+◌, List, [], ◌∷◌, ◌++◌, Bool, true, false, length, take, drop, ltb, eqb}
+use Rattle.std.specs.Prelude.{ℕ, zero, suc, ◌+◌, List, [], ◌∷◌, ◌++◌, Bool, true, false, length, take, drop, ltb, eqb, Err, Ok, Result}
 use Rattle.prelude.specs.Choice.{pick, either}
 use Rattle.refusal.specs.declared.Refusal.{Refusal}
 use Rattle.refusal.specs.declared.Refusal.TheVariants.{MessageTooLong, OutputTooShort, Malformed, NoType, WrongType}
@@ -12,8 +12,6 @@ use Rattle.message.specs.declared.Kind.{Kind}
 use Rattle.message.specs.declared.Kind.TheVariants.{Connect, Sync}
 use Rattle.message.specs.declared.Measured.{Measured}
 use Rattle.message.specs.declared.Measured.TheVariants as m
-use Rattle.message.specs.declared.Decoded.{Decoded}
-use Rattle.message.specs.declared.Decoded.TheVariants as d
 
 -- the number of each type
 abbrev pub type_number : Kind → ℕ
@@ -74,17 +72,17 @@ abbrev pub over : List ℕ → List ℕ → List ℕ
 over new out = new ++ drop (length new) out
 
 -- the answer, where there is room enough for the list of addresses
-abbrev pub with_room : Content → Decoded
-with_room (says k xs) = d.Message (kind_of k) (length (listed xs))
-with_room (refused w) = d.Refused w
+abbrev pub with_room : Content → Result (Kind × ℕ) Refusal
+with_room (says k xs) = Ok (kind_of k, length (listed xs))
+with_room (refused w) = Err w
 
 -- the answer, where there is so much room
-abbrev pub answered : ℕ → Content → Decoded
-answered room (says k xs) = pick (ltb room (length (listed xs))) (d.Refused OutputTooShort) (d.Message (kind_of k) (length (listed xs)))
-answered room (refused w) = d.Refused w
+abbrev pub answered : ℕ → Content → Result (Kind × ℕ) Refusal
+answered room (says k xs) = pick (ltb room (length (listed xs))) (Err OutputTooShort) (Ok (kind_of k, length (listed xs)))
+answered room (refused w) = Err w
 
-unfoldable pub decode_of : List ℕ → ℕ → Decoded
-decode_of s room = pick (ltb max_message_size (length s)) (d.Refused MessageTooLong) (answered room (content_of s))
+unfoldable pub decode_of : List ℕ → ℕ → Result (Kind × ℕ) Refusal
+decode_of s room = pick (ltb max_message_size (length s)) (Err MessageTooLong) (answered room (content_of s))
 
 -- the buffer after it
 abbrev pub filled : List ℕ → Content → List ℕ

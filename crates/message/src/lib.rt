@@ -11,7 +11,7 @@ ghost use Rattle.message.specs.Encoding.{type_field, address_field, address_fiel
 
 use protobuf::Field;
 use refusal::Refusal;
-use wire::{Entry, MAX_MESSAGE_SIZE};
+use wire::MAX_MESSAGE_SIZE;
 
 // The type of a message: CONNECT is 100, SYNC is 300.
 #[derive(Clone, Copy)]
@@ -23,12 +23,6 @@ pub enum Kind {
 // ---- Reading
 
 #[derive(Clone, Copy)]
-pub enum Decoded {
-    Message { kind: Kind, size: usize },
-    Refused(Refusal),
-}
-
-#[derive(Clone, Copy)]
 enum Measured {
     Good { kind: u64, size: usize },
     Refused(Refusal),
@@ -37,10 +31,7 @@ enum Measured {
 fn is_known(value: u64) -> bool
     ensures { result ≡ known value }
 {
-    if value == 100 {
-        return true;
-    }
-    value == 300
+    matches!(value, 100 | 300)
 }
 
 fn kind_of(number: u64) -> Kind
@@ -54,103 +45,81 @@ fn kind_of(number: u64) -> Kind
 }
 
 // The type, and how long the list of addresses is; or why the message is refused.
+#[tactic(auto, using(crate::proofs::Scan::typed_within, crate::proofs::Scan::address_within, crate::proofs::Scan::other_within))]
 fn measure(s: &[u8]) -> Measured
     ensures { result ≡ measured (content_of s.now) }
 {
-    let mut at: usize = 0;
+    // A while: a field says how long it is only when it is read.
+    let mut rest = s;
     let mut kind: u64 = 0;
     let mut size: usize = 0;
-    while at < s.len() {
-        match protobuf::first_field(&s[at..]) {
-            Field::Malformed => {
-                return Measured::Refused(Refusal::Malformed);
-            }
+    while !rest.is_empty() {
+        match protobuf::first_field(rest) {
+            Field::Malformed => return Measured::Refused(Refusal::Malformed),
             Field::Typed { value, size: n } => {
-                if is_known(value) {
-                    kind = value;
-                    at += n;
-                } else {
+                if !is_known(value) {
                     return Measured::Refused(Refusal::WrongType);
                 }
+                kind = value;
+                rest = &rest[n..];
             }
             Field::Address { start, len } => {
                 size += 2 + len;
-                at += start + len;
+                rest = &rest[start + len..];
             }
-            Field::Other { size: n } => {
-                at += n;
-            }
+            Field::Other { size: n } => rest = &rest[n..],
         }
     }
     if kind == 0 {
         return Measured::Refused(Refusal::NoType);
     }
-    Measured::Good {
-        kind: kind,
-        size: size,
-    }
+    Measured::Good { kind, size }
 }
 
 // The addresses of an accepted message, as a list.
+#[tactic(auto, using(crate::proofs::Scan::typed_within, crate::proofs::Scan::address_within, crate::proofs::Scan::other_within))]
 fn put_addresses(s: &[u8], out: &mut [u8])
     requires { (length s.now ≤ max_message_size) × (accepted (content_of s.now) ≡ true) }
     ensures { out.new ≡ sets out.old 0 (listed (addresses (content_of s.now))) }
 {
-    let mut at: usize = 0;
+    // A while, as in measure.
+    let mut rest = s;
     let mut p: usize = 0;
-    while at < s.len() {
-        match protobuf::first_field(&s[at..]) {
-            Field::Malformed => {
-                return;
-            }
-            Field::Typed { value: _, size: n } => {
-                at += n;
-            }
+    while !rest.is_empty() {
+        match protobuf::first_field(rest) {
+            Field::Malformed => return,
+            Field::Typed { value: _, size } => rest = &rest[size..],
             Field::Address { start, len } => {
-                let a = at + start;
-                let e = a + len;
-                wire::put_entry(&s[a..e], out, p);
+                wire::put_entry(&rest[start..start + len], out, p);
                 p += 2 + len;
-                at = e;
+                rest = &rest[start + len..];
             }
-            Field::Other { size: n } => {
-                at += n;
-            }
+            Field::Other { size } => rest = &rest[size..],
         }
     }
 }
 
 // Reads a message: its type, and its addresses as a list from the first byte of out on.
-pub fn decode(message: &[u8], out: &mut [u8]) -> Decoded
+pub fn decode(message: &[u8], out: &mut [u8]) -> Result<(Kind, usize), Refusal>
     ensures answer { result ≡ decode_of message.now (length out.old) }
     ensures stored { out.new ≡ decode_into message.now out.old }
 {
     if MAX_MESSAGE_SIZE < message.len() {
-        return Decoded::Refused(Refusal::MessageTooLong);
+        return Err(Refusal::MessageTooLong);
     }
     match measure(message) {
-        Measured::Refused(why) => Decoded::Refused(why),
+        Measured::Refused(why) => Err(why),
         Measured::Good { kind, size } => {
             if out.len() < size {
-                return Decoded::Refused(Refusal::OutputTooShort);
+                return Err(Refusal::OutputTooShort);
             }
             put_addresses(message, out);
-            let k = kind_of(kind);
-            Decoded::Message {
-                kind: k,
-                size: size,
-            }
+            Ok((kind_of(kind), size))
         }
     }
 }
 
 // ---- Writing
-
-#[derive(Clone, Copy)]
-pub enum Encoded {
-    Message(usize),
-    Refused(Refusal),
-}
 
 fn type_number(kind: Kind) -> u64
     ensures { result ≡ type_number kind }
@@ -161,44 +130,43 @@ fn type_number(kind: Kind) -> u64
     }
 }
 
+// How many bytes an address takes as a field.
+fn field_len(address: &[u8]) -> usize
+    ensures { result ≡ length (address_field address.now) }
+{
+    let n = address.len();
+    1 + wire::varint_len(n as u64) + n
+}
+
 // How many bytes the addresses of a list take as fields.
 fn fields_size(list: &[u8]) -> usize
     ensures { result ≡ length (address_fields (entries list.now)) }
 {
-    let mut at: usize = 0;
     let mut size: usize = 0;
-    loop {
-        let e = wire::entry_at(list, at);
-        match e {
-            Entry::End => return size,
-            Entry::Broken => return size,
-            Entry::Address { start, end } => {
-                let len = end - start;
-                size += 1 + wire::varint_len(len as u64) + len;
-                at = end;
-            }
-        }
+    for address in wire::entries(list) {
+        size += field_len(address);
     }
+    size
 }
 
 // How long the message is, or why it is not written.
-fn message_size(kind: Kind, list: &[u8]) -> Encoded
+fn message_size(kind: Kind, list: &[u8]) -> Result<usize, Refusal>
     ensures { result ≡ encode_of kind list.now max_message_size }
 {
     if wire::is_broken(list) {
-        return Encoded::Refused(Refusal::BrokenList);
+        return Err(Refusal::BrokenList);
     }
     let rest = fields_size(list);
     // Tested first, so that the sum below fits.
     if MAX_MESSAGE_SIZE < rest {
-        return Encoded::Refused(Refusal::MessageTooLong);
+        return Err(Refusal::MessageTooLong);
     }
     let number = type_number(kind);
     let size = 1 + wire::varint_len(number) + rest;
     if MAX_MESSAGE_SIZE < size {
-        return Encoded::Refused(Refusal::MessageTooLong);
+        return Err(Refusal::MessageTooLong);
     }
-    Encoded::Message(size)
+    Ok(size)
 }
 
 // An address as a field; what would stand past the end is left out.
@@ -220,20 +188,10 @@ fn put_fields(list: &[u8], out: &mut [u8], from: usize)
     requires { from + length (address_fields (entries list.now)) ≤ length out.old }
     ensures { out.new ≡ sets out.old from (address_fields (entries list.now)) }
 {
-    let mut at: usize = 0;
     let mut p = from;
-    loop {
-        let e = wire::entry_at(list, at);
-        match e {
-            Entry::End => return,
-            Entry::Broken => return,
-            Entry::Address { start, end } => {
-                put_field(&list[start..end], out, p);
-                let len = end - start;
-                p += 1 + wire::varint_len(len as u64) + len;
-                at = end;
-            }
-        }
+    for address in wire::entries(list) {
+        put_field(address, out, p);
+        p += field_len(address);
     }
 }
 
@@ -249,39 +207,39 @@ fn put_message(number: u64, list: &[u8], out: &mut [u8], at: usize)
 }
 
 // Writes a message of this type with the addresses of a list.
-pub fn encode(kind: Kind, list: &[u8], out: &mut [u8]) -> Encoded
+pub fn encode(kind: Kind, list: &[u8], out: &mut [u8]) -> Result<usize, Refusal>
     ensures answer { result ≡ encode_of kind list.now (length out.old) }
     ensures stored { out.new ≡ encode_into kind list.now out.old }
 {
     match message_size(kind, list) {
-        Encoded::Refused(why) => Encoded::Refused(why),
-        Encoded::Message(size) => {
+        Err(why) => Err(why),
+        Ok(size) => {
             if out.len() < size {
-                return Encoded::Refused(Refusal::OutputTooShort);
+                return Err(Refusal::OutputTooShort);
             }
             let number = type_number(kind);
             put_message(number, list, out, 0);
-            Encoded::Message(size)
+            Ok(size)
         }
     }
 }
 
 // Writes the message behind its length, as it goes out on a stream.
-pub fn encode_frame(kind: Kind, list: &[u8], out: &mut [u8]) -> Encoded
+pub fn encode_frame(kind: Kind, list: &[u8], out: &mut [u8]) -> Result<usize, Refusal>
     ensures answer { result ≡ frame_encode_of kind list.now (length out.old) }
     ensures stored { out.new ≡ frame_encode_into kind list.now out.old }
 {
     match message_size(kind, list) {
-        Encoded::Refused(why) => Encoded::Refused(why),
-        Encoded::Message(size) => {
+        Err(why) => Err(why),
+        Ok(size) => {
             let head = wire::varint_len(size as u64);
             if out.len() < head + size {
-                return Encoded::Refused(Refusal::OutputTooShort);
+                return Err(Refusal::OutputTooShort);
             }
             wire::put_varint(size as u64, out, 0);
             let number = type_number(kind);
             put_message(number, list, out, head);
-            Encoded::Message(head + size)
+            Ok(head + size)
         }
     }
 }

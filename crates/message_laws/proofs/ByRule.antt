@@ -8,6 +8,7 @@ use native.Mathlib.Omega.{arith}
 use lib.Dec.{ltb, eqb, eqb-suc-zero}
 use lib.ListN.{length, drop}
 use borrow.Author.Tests.{lt-ltb, ne_eqb, ltb-true, ltb-false, eqb-true}
+use Rattle.std.specs.Prelude.{Err, Ok}
 use Rattle.prelude.specs.Choice.{pick, either}
 use Rattle.refusal.specs.declared.Refusal.TheVariants.{MessageTooLong, OutputTooShort, BrokenList}
 use Rattle.wire.specs.Varint.{groups, encoded}
@@ -40,8 +41,6 @@ use Rattle.message_laws.specs.Refused.{
 use Rattle.message_laws.specs.Refused.Said.{typed, address, skipped, malformed}
 use Rattle.message.specs.declared.Kind.{Kind}
 use Rattle.message.specs.declared.Kind.TheVariants.{Connect, Sync}
-use Rattle.message.specs.declared.Decoded.TheVariants as d
-use Rattle.message.specs.declared.Encoded.TheVariants as e
 use Rattle.message.proofs.FieldList.{field_long, fields_more}
 use Rattle.message.proofs.Answers.{frame_adds}
 use Rattle.message_laws.proofs.Told.{finish, Outcome, outcome, scan_told}
@@ -76,10 +75,10 @@ last_met (address a ∷ xs) h = last_met xs h
 last_met (skipped ∷ xs) h = last_met xs h
 last_met (malformed ∷ xs) h = absurd (omega arith)
 
-known_kind : (k n : ℕ) → known k ≡ true → (eqb k 0 ≡ false) × (read_values (d.Message (kind_of k) n) ≡ 0 ∷ k ∷ n ∷ [])
+known_kind : (k n : ℕ) → known k ≡ true → (eqb k 0 ≡ false) × (read_values (Ok (kind_of k, n)) ≡ 0 ∷ k ∷ n ∷ [])
 known_kind k n h = go (eqb k 100) refl (eqb k 300) refl h
   where
-    go : (a : Bool) → eqb k 100 ≡ a → (b : Bool) → eqb k 300 ≡ b → either a b ≡ true → (eqb k 0 ≡ false) × (read_values (d.Message (pick a Connect Sync) n) ≡ 0 ∷ k ∷ n ∷ [])
+    go : (a : Bool) → eqb k 100 ≡ a → (b : Bool) → eqb k 300 ≡ b → either a b ≡ true → (eqb k 0 ≡ false) × (read_values (Ok (pick a Connect Sync, n)) ≡ 0 ∷ k ∷ n ∷ [])
     go true p b q h = let z = eqb-true k 100 p in (rw z, rw z)
     go false p true q h = let z = eqb-true k 300 q in (rw z, rw z)
     go false p false q h = let z : ◌≡◌ {A = ℕ} 0 1 = cc in absurd (omega arith)
@@ -97,15 +96,15 @@ unfolding first
 end_told k room ys none (inl (p, q)) = rw (p, q)
 end_told k room ys none (inr (p, q)) = let z = known_kind k (length (listed ys)) q in rw (p, z.0) (go (ltb room (length (listed ys))) z.1)
   where
-    go : (short : Bool) → read_values (d.Message (kind_of k) (length (listed ys))) ≡ 0 ∷ k ∷ length (listed ys) ∷ []
-        → read_values (pick short (d.Refused OutputTooShort) (d.Message (kind_of k) (length (listed ys))))
+    go : (short : Bool) → read_values (Ok (kind_of k, length (listed ys))) ≡ 0 ∷ k ∷ length (listed ys) ∷ []
+        → read_values (pick short (Err OutputTooShort) (Ok (kind_of k, length (listed ys))))
         ≡ pick (eqb (number false 0 false short) 0) (0 ∷ k ∷ length (listed ys) ∷ []) (number false 0 false short ∷ [])
     go true z = refl
     go false z = z
 
 answer_told : (xs : List Said) (room : ℕ) (c : Content) → Outcome 0 xs c → (long : Bool)
     → let n = number long (first (faults xs)) (eqb (length (types xs)) 0) (ltb room (length (listed (addresses xs)))) in
-    read_values (pick long (d.Refused MessageTooLong) (answered room c)) ≡ pick (eqb n 0) (0 ∷ last_of 0 (types xs) ∷ length (listed (addresses xs)) ∷ []) (n ∷ [])
+    read_values (pick long (Err MessageTooLong) (answered room c)) ≡ pick (eqb n 0) (0 ∷ last_of 0 (types xs) ∷ length (listed (addresses xs)) ∷ []) (n ∷ [])
 unfolding first
 answer_told xs room c o true = refl
 answer_told xs room c (faulty p n) false = let q = ne_eqb (first (faults xs)) 0 n in rw (q, q, p)
@@ -183,7 +182,7 @@ module _ (s m b : List ℕ) (size whole room : ℕ) (w : length m ≤ 4096 → s
   -- the bytes are as many as the rule says, where the message is short enough
   fit_told : (long : Bool) → ltb 4096 (length m) ≡ long → size ≡ length m → (short : Bool) → ltb room (length b) ≡ short
       → let n = first (fits (ltb 4096 size) 6 ∷ fits (ltb room whole) 7 ∷ []) in
-      write_values (pick long (e.Refused MessageTooLong) (pick short (e.Refused OutputTooShort) (e.Message (length b)))) ≡ pick (eqb n 0) (0 ∷ whole ∷ []) (n ∷ [])
+      write_values (pick long (Err MessageTooLong) (pick short (Err OutputTooShort) (Ok (length b)))) ≡ pick (eqb n 0) (0 ∷ whole ∷ []) (n ∷ [])
   unfolding first
   fit_told true p q short r = rw (q, p)
   fit_told false p q true r = let z = w (ltb-false 4096 (length m) p) q in rw (q, p, z, r)
@@ -195,7 +194,7 @@ module _ (s m b : List ℕ) (size whole room : ℕ) (w : length m ≤ 4096 → s
     where
       go : (t : Bool) → Sizes size (length m)
           → let n = first (fits t 5 ∷ fits (ltb 4096 size) 6 ∷ fits (ltb room whole) 7 ∷ []) in
-          write_values (pick t (e.Refused BrokenList) (pick (ltb max_message_size (length m)) (e.Refused MessageTooLong) (pick (ltb room (length b)) (e.Refused OutputTooShort) (e.Message (length b)))))
+          write_values (pick t (Err BrokenList) (pick (ltb max_message_size (length m)) (Err MessageTooLong) (pick (ltb room (length b)) (Err OutputTooShort) (Ok (length b)))))
           ≡ pick (eqb n 0) (0 ∷ whole ∷ []) (n ∷ [])
       go true p = refl
       go false (inl p) = fit_told (ltb 4096 (length m)) refl p (ltb room (length b)) refl

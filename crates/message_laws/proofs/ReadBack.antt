@@ -9,6 +9,7 @@ use lib.Dec.{eqb-suc-zero}
 use lib.ListN.{length, get_or, take, drop, length-append}
 use lib.Seq.{drop_at, take-append_seam}
 use borrow.Author.Tests.{le-leb, le-ltb, ne_eqb}
+use Rattle.std.specs.Prelude.{Ok}
 use Rattle.wire.specs.Varint.{value_of, span_of, varint_of, encoded}
 use Rattle.wire.specs.Frame.{max_message_size}
 use Rattle.wire.specs.Lists.{entries, broken, listed}
@@ -23,8 +24,6 @@ use Rattle.message.proofs.Scan.{scan_nil}
 use Rattle.message.proofs.FieldList.{field_long}
 use Rattle.message.proofs.Answers.{sent_is}
 use Rattle.protobuf.specs.declared.Field.TheVariants as f
-use Rattle.message.specs.declared.Decoded.TheVariants as d
-use Rattle.message.specs.declared.Encoded.TheVariants as w
 
 -- ---- one field
 
@@ -99,7 +98,7 @@ kind_back Connect = refl
 kind_back Sync = refl
 
 -- what is accepted: the list is not broken, the message m is short enough, and the first n bytes of the buffer are b
-accepted_is : (s m b o : List ℕ) (n : ℕ) → sent s m b (length o) ≡ w.Message n
+accepted_is : (s m b o : List ℕ) (n : ℕ) → sent s m b (length o) ≡ Ok n
     → (broken s ≡ false) × (length m ≤ max_message_size) × (take n (sent_into s m b o) ≡ b)
 accepted_is s m b o n e =
     let q = sent_is s m b (length o) n e in
@@ -107,14 +106,14 @@ accepted_is s m b o n e =
 
 -- a message that says k and xs is read so, where there is room
 reads : (m o : List ℕ) (k : Kind) (xs : List (List ℕ)) → length m ≤ max_message_size → content_of m ≡ says (type_number k) xs → length (listed xs) ≤ length o
-    → (decode_of m (length o) ≡ d.Message k (length (listed xs))) × (decode_into m o ≡ over (listed xs) o)
+    → (decode_of m (length o) ≡ Ok (k, length (listed xs))) × (decode_into m o ≡ over (listed xs) o)
 unfolding decode_of decode_into
 reads m o k xs h e l =
     let t = le-ltb (length o) (length (listed xs)) l in
     (rw (le-ltb max_message_size (length m) h, e, t, kind_back k), rw (le-ltb max_message_size (length m) h, e, t))
 
-pub reads_back : (k : Kind) (s o back : List ℕ) (n : ℕ) → ((i : ℕ) → get_or s i 0 < 256) → encode_of k s (length o) ≡ w.Message n → length s ≤ length back
-    → (decode_of (take n (encode_into k s o)) (length back) ≡ d.Message k (length s)) × (decode_into (take n (encode_into k s o)) back ≡ over s back)
+pub reads_back : (k : Kind) (s o back : List ℕ) (n : ℕ) → ((i : ℕ) → get_or s i 0 < 256) → encode_of k s (length o) ≡ Ok n → length s ≤ length back
+    → (decode_of (take n (encode_into k s o)) (length back) ≡ Ok (k, length s)) × (decode_into (take n (encode_into k s o)) back ≡ over s back)
 unfolding encode_of encode_into
 reads_back k s o back n f e h =
     let m = message_bytes k (entries s) in

@@ -8,13 +8,12 @@ use lib.Dec.{ltb, leb, eqb, eqb-suc-zero}
 use lib.ListN.{length, take, drop}
 use lib.Seq.{drop-drop}
 use borrow.Author.Tests.{le-leb, lt-leb, ltb-true, ltb-false, eqb-true, eqb-false, ne_eqb}
+use Rattle.std.specs.Prelude.{None, Option, Some, ℕ}
 use Rattle.prelude.specs.Choice.{pick, both}
 use Rattle.refusal.specs.Number.{number_of}
 use Rattle.refusal.specs.declared.Refusal.{Refusal}
 use Rattle.refusal.specs.declared.Refusal.TheVariants as why
 use Rattle.wire.specs.Varint.{varint_of}
-use Rattle.wire.specs.declared.Varint.{Varint}
-use Rattle.wire.specs.declared.Varint.TheVariants.{Value, Malformed}
 use Rattle.wire.proofs.Spans.{varint_size}
 use Rattle.protobuf.specs.Fields.{max_field, varint_field, fixed_field, bytes_field, payload_of, tagged, field_of}
 use Rattle.message.specs.Message.{Content, says, refused, also, known, ended, step, scan}
@@ -52,8 +51,8 @@ module _ (s : List ℕ) (n t : ℕ) where
   abbrev left : ℕ
   left = length (drop t s)
 
-  varint_meets : (r : Varint) → r ≡ varint_of (drop t s) → Meets s (inside (bytes_in r) left) (t + bytes_in r) (said_by n 0 r (drop t s)) (varint_field n t r)
-  varint_meets (Value v k) e = go (eqb n 1) (eqb n 2)
+  varint_meets : (r : Option (ℕ × ℕ)) → r ≡ varint_of (drop t s) → Meets s (inside (bytes_in r) left) (t + bytes_in r) (said_by n 0 r (drop t s)) (varint_field n t r)
+  varint_meets (Some (v, k)) e = go (eqb n 1) (eqb n 2)
     where
       ends : inside k left ≡ true
       ends = let q = varint_size (drop t s) v k e in inside_true k left (omega arith) (omega arith)
@@ -64,7 +63,7 @@ module _ (s : List ℕ) (n t : ℕ) where
       go true b = (ends, refl, refl)
       go false true = (ends, refl, refl)
       go false false = (ends, refl, refl)
-  varint_meets Malformed e = refl
+  varint_meets None e = refl
 
   -- z bytes, one at least
   fixed_meets : (z : ℕ) (x : Said) → x ≡ skipped → leb 1 z ≡ true → Meets s (inside z left) (t + z) x (fixed_field z t (drop t s))
@@ -74,8 +73,8 @@ module _ (s : List ℕ) (n t : ℕ) where
       go true = (refl, refl, e)
       go false = refl
 
-  bytes_meets : (r : Varint) → r ≡ varint_of (drop t s) → Meets s (inside (bytes_in r + number_in r) left) (t + (bytes_in r + number_in r)) (said_by n 2 r (drop t s)) (bytes_field n t (drop t s) r)
-  bytes_meets (Value v k) e = rw (le-leb 1 (k + v) one) (go (leb (k + v) left) (eqb n 1) (eqb n 2))
+  bytes_meets : (r : Option (ℕ × ℕ)) → r ≡ varint_of (drop t s) → Meets s (inside (bytes_in r + number_in r) left) (t + (bytes_in r + number_in r)) (said_by n 2 r (drop t s)) (bytes_field n t (drop t s) r)
+  bytes_meets (Some (v, k)) e = rw (le-leb 1 (k + v) one) (go (leb (k + v) left) (eqb n 1) (eqb n 2))
     where
       one : 1 ≤ k + v
       one = let q = varint_size (drop t s) v k e in omega arith
@@ -88,15 +87,15 @@ module _ (s : List ℕ) (n t : ℕ) where
       go true false true = (refl, omega arith, rw (drop-drop k t s))
       go true false false = (refl, omega arith, refl)
       go false a b = refl
-  bytes_meets Malformed e = refl
+  bytes_meets None e = refl
 
-  abbrev payload_by : ℕ → Varint → Field
+  abbrev payload_by : ℕ → Option (ℕ × ℕ) → Field
   payload_by w r =
       pick (eqb w 0) (varint_field n t r)
       (pick (eqb w 1) (fixed_field 8 t (drop t s))
       (pick (eqb w 2) (bytes_field n t (drop t s) r) (pick (eqb w 5) (fixed_field 4 t (drop t s)) f.Malformed)))
 
-  payload_meets : (w : ℕ) (r : Varint) → r ≡ varint_of (drop t s) → Meets s (inside (payload_size w r) left) (t + payload_size w r) (said_by n w r (drop t s)) (payload_by w r)
+  payload_meets : (w : ℕ) (r : Option (ℕ × ℕ)) → r ≡ varint_of (drop t s) → Meets s (inside (payload_size w r) left) (t + payload_size w r) (said_by n w r (drop t s)) (payload_by w r)
   payload_meets zero r e = varint_meets r e
   payload_meets (suc zero) r e = fixed_meets 8 _ (skip (eqb n 1) (eqb n 2) _ _ _) refl
   payload_meets (suc (suc zero)) r e = bytes_meets r e
@@ -105,20 +104,20 @@ module _ (s : List ℕ) (n t : ℕ) where
   payload_meets (suc (suc (suc (suc (suc zero))))) r e = fixed_meets 4 _ (skip (eqb n 1) (eqb n 2) _ _ _) refl
   payload_meets (suc (suc (suc (suc (suc (suc u)))))) r e = above (suc (suc (suc (suc (suc (suc u)))))) r (omega arith)
     where
-      above : (w : ℕ) (r : Varint) → 5 < w → Meets s (inside (payload_size w r) left) (t + payload_size w r) (said_by n w r (drop t s)) (payload_by w r)
+      above : (w : ℕ) (r : Option (ℕ × ℕ)) → 5 < w → Meets s (inside (payload_size w r) left) (t + payload_size w r) (said_by n w r (drop t s)) (payload_by w r)
       above w r h = rw (ne_eqb w 0 (omega arith), ne_eqb w 1 (omega arith), ne_eqb w 2 (omega arith), ne_eqb w 5 (omega arith)) refl
 
 -- by its tag r
-tag_meets : (s : List ℕ) (r : Varint) → r ≡ varint_of s
+tag_meets : (s : List ℕ) (r : Option (ℕ × ℕ)) → r ≡ varint_of s
     → Meets s
     (both (both (leb 1 (number_in r / 8)) (leb (number_in r / 8) 536_870_911)) (inside (payload_size (number_in r % 8) (varint_of (drop (bytes_in r) s))) (length (drop (bytes_in r) s))))
     (bytes_in r + payload_size (number_in r % 8) (varint_of (drop (bytes_in r) s)))
     (said_by (number_in r / 8) (number_in r % 8) (varint_of (drop (bytes_in r) s)) (drop (bytes_in r) s))
     (tagged s r)
-tag_meets s Malformed e = refl
-tag_meets s (Value v t) e = go (eqb (v / 8) 0) refl (ltb max_field (v / 8)) refl
+tag_meets s None e = refl
+tag_meets s (Some (v, t)) e = go (eqb (v / 8) 0) refl (ltb max_field (v / 8)) refl
   where
-    q : Varint
+    q : (Option (ℕ × ℕ))
     q = varint_of (drop t s)
 
     go : (a : Bool) → eqb (v / 8) 0 ≡ a → (b : Bool) → ltb max_field (v / 8) ≡ b

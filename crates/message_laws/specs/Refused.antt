@@ -1,31 +1,26 @@
 -- By which number a message is refused, read and written, as a table over its fields (RULES.md, sections 2 and 3).
-use Rattle.std.specs.Prelude.{ℕ, zero, suc, ◌+◌, ◌/◌, ◌%◌, List, [], ◌∷◌, Bool, length, take, drop, ltb, leb, eqb}
+use Rattle.std.specs.Prelude.{ℕ, zero, suc, ◌+◌, ◌/◌, ◌%◌, List, [], ◌∷◌, Bool, length, take, drop, ltb, leb, eqb, Err, None, Ok, Option, Result, Some}
 use Rattle.prelude.specs.Choice.{pick, both, either}
 use Rattle.refusal.specs.Number.{number_of}
 use Rattle.wire.specs.Varint.{varint_of}
-use Rattle.wire.specs.declared.Varint.{Varint}
-use Rattle.wire.specs.declared.Varint.TheVariants.{Value, Malformed}
 use Rattle.wire.specs.Lists.{entries, broken, listed}
 use Rattle.message.specs.declared.Kind.{Kind}
 use Rattle.message.specs.declared.Kind.TheVariants.{Connect, Sync}
-use Rattle.message.specs.declared.Decoded.{Decoded}
-use Rattle.message.specs.declared.Decoded.TheVariants as d
-use Rattle.message.specs.declared.Encoded.{Encoded}
-use Rattle.message.specs.declared.Encoded.TheVariants as e
+use Rattle.refusal.specs.declared.Refusal.{Refusal}
 
 -- ---- the fields of a message (section 2)
 
 -- the number of a varint, and how many bytes it has; both are 0 where it is malformed
-abbrev pub number_in : Varint → ℕ
-number_in (Value v n) = v
-number_in Malformed = 0
+abbrev pub number_in : Option (ℕ × ℕ) → ℕ
+number_in (Some (v, n)) = v
+number_in None = 0
 
-abbrev pub bytes_in : Varint → ℕ
-bytes_in (Value v n) = n
-bytes_in Malformed = 0
+abbrev pub bytes_in : Option (ℕ × ℕ) → ℕ
+bytes_in (Some (v, n)) = n
+bytes_in None = 0
 
 -- how many bytes a payload of wire type w has, by the varint in front of it; 0 where it is malformed
-abbrev pub payload_size : ℕ → Varint → ℕ
+abbrev pub payload_size : ℕ → Option (ℕ × ℕ) → ℕ
 payload_size w v = pick (eqb w 0) (bytes_in v) (pick (eqb w 1) 8 (pick (eqb w 2) (bytes_in v + number_in v) (pick (eqb w 5) 4 0)))
 
 -- the field that stands first: its number and its wire type, by its tag
@@ -39,7 +34,7 @@ wire_type s = number_in (varint_of s) % 8
 abbrev pub behind_tag : List ℕ → List ℕ
 behind_tag s = drop (bytes_in (varint_of s)) s
 
-abbrev pub begins : List ℕ → Varint
+abbrev pub begins : List ℕ → Option (ℕ × ℕ)
 begins s = varint_of (behind_tag s)
 
 -- the size of its payload, and its own
@@ -63,7 +58,7 @@ pub data Said : Type 0 where
   malformed : Said
 
 -- field 1 of wire type 0 is the type, field 2 of wire type 2 an address; v begins the payload, which is the front of s
-abbrev pub said_by : ℕ → ℕ → Varint → List ℕ → Said
+abbrev pub said_by : ℕ → ℕ → Option (ℕ × ℕ) → List ℕ → Said
 said_by n w v s =
     pick (both (eqb n 1) (eqb w 0)) (typed (number_in v))
     (pick (both (eqb n 2) (eqb w 2)) (address (take (number_in v) (drop (bytes_in v) s))) skipped)
@@ -140,10 +135,10 @@ last_of k [] = k
 last_of k (v ∷ vs) = last_of v vs
 
 -- an answer by numbers: a refusal's number; or 0, the type and the size
-abbrev pub read_values : Decoded → List ℕ
-read_values (d.Message Connect n) = 0 ∷ 100 ∷ n ∷ []
-read_values (d.Message Sync n) = 0 ∷ 300 ∷ n ∷ []
-read_values (d.Refused why) = number_of why ∷ []
+abbrev pub read_values : Result (Kind × ℕ) Refusal → List ℕ
+read_values (Ok (Connect, n)) = 0 ∷ 100 ∷ n ∷ []
+read_values (Ok (Sync, n)) = 0 ∷ 300 ∷ n ∷ []
+read_values (Err why) = number_of why ∷ []
 
 abbrev pub read_by : List ℕ → ℕ → List ℕ
 read_by m room =
@@ -176,9 +171,9 @@ write_table s message whole room = fits (broken s) 5 ∷ fits (ltb 4096 message)
 unfoldable pub write_number : List ℕ → ℕ → ℕ → ℕ → ℕ
 write_number s message whole room = first (write_table s message whole room)
 
-abbrev pub write_values : Encoded → List ℕ
-write_values (e.Message n) = 0 ∷ n ∷ []
-write_values (e.Refused why) = number_of why ∷ []
+abbrev pub write_values : Result ℕ Refusal → List ℕ
+write_values (Ok n) = 0 ∷ n ∷ []
+write_values (Err why) = number_of why ∷ []
 
 abbrev pub written_by : List ℕ → ℕ → ℕ → ℕ → List ℕ
 written_by s message whole room = pick (eqb (write_number s message whole room) 0) (0 ∷ whole ∷ []) (write_number s message whole room ∷ [])

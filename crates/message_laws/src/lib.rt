@@ -1,26 +1,24 @@
 // Laws of the message (message.rs): what is written is read, and each answer is that of the tables in sections 2 and 3 of docs/RULES.md.
 #![tactic(auto)]
 
-ghost use Rattle.std.specs.Prelude.{◌≡◌, List, ◌++◌, ℕ, ◌+◌, ◌<◌, ◌≤◌, length, take, drop, get_or};
+ghost use Rattle.std.specs.Prelude.{◌≡◌, List, ◌++◌, ℕ, ◌+◌, ◌<◌, ◌≤◌, length, take, drop, get_or, Err, Ok};
 ghost use Rattle.refusal.specs.declared.Refusal.{Refusal};
 ghost use Rattle.wire.specs.Frame.{max_message_size};
 ghost use Rattle.message.specs.Message.{content_of, over, with_room, decode_of, decode_into};
 ghost use Rattle.message.specs.Encoding.{encode_of, encode_into, frame_encode_of, frame_encode_into};
 ghost use Rattle.message.specs.declared.Kind.{Kind};
-ghost use Rattle.message.specs.declared.Decoded.TheVariants as Decoded;
-ghost use Rattle.message.specs.declared.Encoded.TheVariants as Encoded;
 ghost use Rattle.message_laws.specs.Refused.{address_list, read_number, read_values, read_by, message_size, frame_size, write_values, written_by};
 
 // Reading what was written gives the type and the addresses back, for every type and list that is accepted.
 pub fn encoded_reads_back()
-    ensures { (k : Kind) (s out back : List ℕ) (n : ℕ) → ((i : ℕ) → get_or s i 0 < 256) → encode_of k s (length out) ≡ Encoded.Message n → length s ≤ length back → (decode_of (take n (encode_into k s out)) (length back) ≡ Decoded.Message k (length s)) × (decode_into (take n (encode_into k s out)) back ≡ over s back) }
+    ensures { (k : Kind) (s out back : List ℕ) (n : ℕ) → ((i : ℕ) → get_or s i 0 < 256) → encode_of k s (length out) ≡ Ok n → length s ≤ length back → (decode_of (take n (encode_into k s out)) (length back) ≡ Ok (k, length s)) × (decode_into (take n (encode_into k s out)) back ≡ over s back) }
 {}
 
 // A refusal changes no byte of the output.
 pub fn refused_changes_nothing()
-    ensures read { (m out : List ℕ) (why : Refusal) → decode_of m (length out) ≡ Decoded.Refused why → decode_into m out ≡ out }
-    ensures written { (k : Kind) (s out : List ℕ) (why : Refusal) → encode_of k s (length out) ≡ Encoded.Refused why → encode_into k s out ≡ out }
-    ensures framed { (k : Kind) (s out : List ℕ) (why : Refusal) → frame_encode_of k s (length out) ≡ Encoded.Refused why → frame_encode_into k s out ≡ out }
+    ensures read { (m out : List ℕ) (why : Refusal) → decode_of m (length out) ≡ Err why → decode_into m out ≡ out }
+    ensures written { (k : Kind) (s out : List ℕ) (why : Refusal) → encode_of k s (length out) ≡ Err why → encode_into k s out ≡ out }
+    ensures framed { (k : Kind) (s out : List ℕ) (why : Refusal) → frame_encode_of k s (length out) ≡ Err why → frame_encode_into k s out ≡ out }
 {}
 
 // A room as long as the message is always enough for its list of addresses.

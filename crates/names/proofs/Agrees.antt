@@ -7,6 +7,7 @@ use mathlib.Core.List.{List, [], ◌∷◌, ◌++◌}
 use native.Mathlib.Omega.{arith}
 use borrow.Author.Tests.{eqb-true, eqb-false, ne_eqb, eq-eqb, ltb-true, ltb-false, lt-ltb, le-ltb}
 use lib.Dec.{eqb, ltb}
+use Rattle.std.specs.Prelude.{None, Option, Some, ℕ}
 use Rattle.prelude.specs.Lists.{such}
 use Rattle.prelude.specs.Choice.{pick, both, either}
 use Rattle.ids.specs.declared.PeerId.{PeerId}
@@ -14,8 +15,6 @@ use Rattle.ids.specs.declared.ConnectionId.{ConnectionId}
 use Rattle.ids.specs.declared.ConnectId.{ConnectId}
 use Rattle.ids.specs.declared.NatToken.{NatToken}
 use Rattle.path.specs.declared.Attribution.{Attribution}
-use Rattle.path.specs.declared.FoundPath.TheVariants as found
-use Rattle.path.specs.declared.FoundDial.TheVariants.{None as NoDial}
 use Rattle.path.specs.declared.Claim.{Claim}
 use Rattle.path.specs.declared.DialPurpose.TheVariants.{Punch}
 use Rattle.path.specs.declared.Path.TheVariants.{Punched}
@@ -24,8 +23,6 @@ use Rattle.path.specs.Judged.{by_dial}
 use Rattle.kinds.specs.declared.Entry.{Entry}
 use Rattle.kinds.specs.declared.Entry.TheVariants.{Dialed, Window, Path, Other as NoEntry}
 use Rattle.kinds.specs.declared.Row.{Row}
-use Rattle.rows.specs.declared.Found.{Found}
-use Rattle.rows.specs.declared.Found.TheVariants.{At, Nothing}
 use Rattle.rows.specs.declared.Keep.TheVariants.{Other, Lasting, Below as KeepBelow, Above as KeepAbove}
 use Rattle.rows.specs.Ascending.{Below, Ascending}
 use Rattle.rows.specs.Ascending.Below.{none as below_none, more as below_more}
@@ -35,8 +32,6 @@ use Rattle.rows.specs.Rows.{find_in, keeps_row, kept, without, inserted, crowded
 use Rattle.rows.specs.Rows as row
 use Rattle.kinds.proofs.EntryRows.{entry_back}
 use Rattle.rows.proofs.Laws.{find_entered, find_inserted_other, find_without, find_without_other}
-use Rattle.vocabulary.specs.declared.Deadline.{Deadline}
-use Rattle.vocabulary.specs.declared.Deadline.TheVariants.{At as EndAt, None as NoEnd}
 use Rattle.entries.specs.Entries.{dial_of, dial_at, end_of, end_at, window_open, punch_end, lasts, later, read_as}
 use Rattle.ledger.specs.Ledger.{PathLedger, empty_ledger, dials_of, windows_of, paths_of, with_dials, with_windows, with_paths, dial_row, window_row, path_row, refuses_punches, dial_started, expect_punches, end_punches, ticked, attributed, forgotten, judged_by}
 use Rattle.ledger_laws.specs.Calls as law
@@ -108,8 +103,8 @@ empty_agrees =
 -- ---- windows
 
 -- a window to the later of two ends lasts where one to either does
-later_lasts : (n until : ℕ) (d : Deadline) → ltb n (later until d) ≡ either (ltb n until) (lasts n d)
-later_lasts n until (EndAt end) = go (ltb end until) refl (ltb n until) refl
+later_lasts : (n until : ℕ) (d : Option ℕ) → ltb n (later until d) ≡ either (ltb n until) (lasts n d)
+later_lasts n until (Some end) = go (ltb end until) refl (ltb n until) refl
   where
     go : (x : Bool) → ltb end until ≡ x → (y : Bool) → ltb n until ≡ y → ltb n (pick x until end) ≡ either y (ltb n end)
     go true e true f = f
@@ -122,19 +117,19 @@ later_lasts n until (EndAt end) = go (ltb end until) refl (ltb n until) refl
         let v : n < until = ltb-true n until f in
         lt-ltb n end (omega arith)
     go false e false f = refl
-later_lasts n until NoEnd = go (ltb n until)
+later_lasts n until None = go (ltb n until)
   where
     go : (y : Bool) → y ≡ either y false
     go true = refl
     go false = refl
 
 -- among the rows of larger keys there is none of the key
-none_below : (p : Row → Bool) (k : ℕ) {rs : List Row} → Below k rs → find_in k (such p rs) ≡ Nothing
+none_below : (p : Row → Bool) (k : ℕ) {rs : List Row} → Below k rs → find_in k (such p rs) ≡ None
 unfolding such find_in
 none_below p k below_none = refl
 none_below p k (below_more {r} {rs} h b) = go (p r) (none_below p k b)
   where
-    go : (v : Bool) → find_in k (such p rs) ≡ Nothing → find_in k (pick v (r ∷ such p rs) (such p rs)) ≡ Nothing
+    go : (v : Bool) → find_in k (such p rs) ≡ None → find_in k (pick v (r ∷ such p rs) (such p rs)) ≡ None
     go true i = rw (ne_eqb r.key k (λ e. omega arith)) i
     go false i = i
 
@@ -166,7 +161,7 @@ entry_dropped n at (Window until) h =
 
 -- what a tick leaves lasts at a reading where it lasted at that reading and at the tick's
 ticked_lasts : (k n at : ℕ) {rs : List Row} → Ascending rs
-    → lasts n (read_as end_of NoEnd (find_in k (kept (Lasting at) rs))) ≡ lasts (max n at) (read_as end_of NoEnd (find_in k rs))
+    → lasts n (read_as end_of None (find_in k (kept (Lasting at) rs))) ≡ lasts (max n at) (read_as end_of None (find_in k rs))
 unfolding such find_in
 ticked_lasts k n at ascending-none = refl
 ticked_lasts k n at (ascending-more {r} {rs} b a) = go (row.lasts at (entry_of r)) refl (eqb r.key k) refl (ticked_lasts k n at a)
@@ -175,8 +170,8 @@ ticked_lasts k n at (ascending-more {r} {rs} b a) = go (row.lasts at (entry_of r
     rest = such (keeps_row (Lasting at)) rs
 
     go : (v : Bool) → row.lasts at (entry_of r) ≡ v → (w : Bool) → eqb r.key k ≡ w
-        → lasts n (read_as end_of NoEnd (find_in k rest)) ≡ lasts (max n at) (read_as end_of NoEnd (find_in k rs))
-        → lasts n (read_as end_of NoEnd (find_in k (pick v (r ∷ rest) rest))) ≡ lasts (max n at) (read_as end_of NoEnd (pick w (At (entry_of r)) (find_in k rs)))
+        → lasts n (read_as end_of None (find_in k rest)) ≡ lasts (max n at) (read_as end_of None (find_in k rs))
+        → lasts n (read_as end_of None (find_in k (pick v (r ∷ rest) rest))) ≡ lasts (max n at) (read_as end_of None (pick w (Some (entry_of r)) (find_in k rs)))
     go true e true f i = rw f (entry_kept n at (entry_of r) e)
     go true e false f i = rw f i
     go false e true f i =
@@ -185,23 +180,23 @@ ticked_lasts k n at (ascending-more {r} {rs} b a) = go (row.lasts at (entry_of r
     go false e false f i = i
 
 -- what is found of a key decides
-opens_by : (peer : PeerId) (n : ℕ) (rs : List Row) {f : Found} → find_in peer.0 rs ≡ f → window_open peer n rs ≡ lasts n (read_as end_of NoEnd f)
+opens_by : (peer : PeerId) (n : ℕ) (rs : List Row) {f : Option Entry} → find_in peer.0 rs ≡ f → window_open peer n rs ≡ lasts n (read_as end_of None f)
 unfolding window_open end_at
-opens_by peer n rs e = ap (λ (f : Found). lasts n (read_as end_of NoEnd f)) e
+opens_by peer n rs e = ap (λ (f : Option Entry). lasts n (read_as end_of None f)) e
 
 opens_same : (peer : PeerId) (n : ℕ) (rs qs : List Row) → find_in peer.0 rs ≡ find_in peer.0 qs → window_open peer n rs ≡ window_open peer n qs
 unfolding window_open end_at
-opens_same peer n rs qs e = ap (λ (f : Found). lasts n (read_as end_of NoEnd f)) e
+opens_same peer n rs qs e = ap (λ (f : Option Entry). lasts n (read_as end_of None f)) e
 
-dials_by : (conn : ConnectionId) (other : Attribution) (rs : List Row) {f : Found} → find_in conn.0 rs ≡ f
-    → by_dial (dial_at conn rs) other ≡ by_dial (read_as dial_of NoDial f) other
+dials_by : (conn : ConnectionId) (other : Attribution) (rs : List Row) {f : Option Entry} → find_in conn.0 rs ≡ f
+    → by_dial (dial_at conn rs) other ≡ by_dial (read_as dial_of None f) other
 unfolding dial_at
-dials_by conn other rs e = ap (λ (f : Found). by_dial (read_as dial_of NoDial f) other) e
+dials_by conn other rs e = ap (λ (f : Option Entry). by_dial (read_as dial_of None f) other) e
 
 dials_same : (conn : ConnectionId) (other : Attribution) (rs qs : List Row) → find_in conn.0 rs ≡ find_in conn.0 qs
     → by_dial (dial_at conn rs) other ≡ by_dial (dial_at conn qs) other
 unfolding dial_at
-dials_same conn other rs qs e = ap (λ (f : Found). by_dial (read_as dial_of NoDial f) other) e
+dials_same conn other rs qs e = ap (λ (f : Option Entry). by_dial (read_as dial_of None f) other) e
 
 module _ (l : PathLedger) (es : List Event) (a : Agrees l es) (of : PeerId) where
   pub gave_up_agrees : Agrees (end_punches l of) (gave_up of ∷ es)
@@ -221,7 +216,7 @@ module _ (l : PathLedger) (es : List Event) (a : Agrees l es) (of : PeerId) wher
           → window_open peer n (without of.0 (windows_of l)) ≡ pick v false (awaited peer n es)
       go peer n true e =
           opens_by peer n _
-          (subst (λ (k : ℕ). find_in k (without of.0 (windows_of l)) ≡ Nothing)
+          (subst (λ (k : ℕ). find_in k (without of.0 (windows_of l)) ≡ None)
           (sym (eqb-true peer.0 of.0 e)) (find_without of.0 (windows_of l)))
       go peer n false e =
           opens_same peer n _ (windows_of l) (find_without_other peer.0 of.0 (eqb-false peer.0 of.0 e) (windows_of l))
@@ -254,11 +249,11 @@ module _ (l : PathLedger) (es : List Event) (a : Agrees l es) (of : PeerId) wher
       go peer n true e =
           let k : peer.0 ≡ of.0 = eqb-true peer.0 of.0 e in
           opens_by peer n _
-          (subst (λ (j : ℕ). find_in j (inserted line (windows_of l)) ≡ At (Window ends)) (sym k)
+          (subst (λ (j : ℕ). find_in j (inserted line (windows_of l)) ≡ Some (Window ends)) (sym k)
           (find_entered of.0 (Window ends) (windows_of l)))
           ∙ later_lasts n deadline (end_at of (windows_of l))
           ∙ ap (either (ltb n deadline))
-          (ap (λ (j : ℕ). lasts n (read_as end_of NoEnd (find_in j (windows_of l)))) (sym k) ∙ a.windows peer n)
+          (ap (λ (j : ℕ). lasts n (read_as end_of None (find_in j (windows_of l)))) (sym k) ∙ a.windows peer n)
       go peer n false e =
           opens_same peer n _ (windows_of l) (find_inserted_other peer.0 line (eqb-false peer.0 of.0 e) (windows_of l))
           ∙ a.windows peer n
@@ -266,7 +261,7 @@ module _ (l : PathLedger) (es : List Event) (a : Agrees l es) (of : PeerId) wher
 -- each of these rows is the first of its key among all
 unfoldable Finds : List Row → List Row → Type 0
 Finds all [] = Unit {0}
-Finds all (r ∷ rs) = (find_in r.key all ≡ At (entry_of r)) × Finds all rs
+Finds all (r ∷ rs) = (find_in r.key all ≡ Some (entry_of r)) × Finds all rs
 
 finds_more : (x : Row) (all : List Row) {rs : List Row} → Below x.key rs → Finds all rs → Finds (x ∷ all) rs
 unfolding Finds find_in
@@ -281,13 +276,13 @@ ascending_finds (ascending-more {r} {rs} b a) = (rw (eq-eqb r.key r.key refl), f
 -- a row that a tick keeps is that of a key whose window lasts
 kept_lasts : (at : ℕ) (p : ℕ → Bool) (all rs : List Row) → Finds all rs → AllWindows rs
     → count (λ (r : Row). both (row.lasts at (entry_of r)) (p r.key)) rs
-    ≡ count (λ (r : Row). both (lasts at (read_as end_of NoEnd (find_in r.key all))) (p r.key)) rs
+    ≡ count (λ (r : Row). both (lasts at (read_as end_of None (find_in r.key all))) (p r.key)) rs
 unfolding count Finds AllWindows end_of
 kept_lasts at p all [] f w = refl
 kept_lasts at p all (r ∷ rs) f w =
     rw f.0
     (ap (λ (n : ℕ). pick (both (row.lasts at (entry_of r)) (p r.key)) 1 0 + n) (kept_lasts at p all rs f.1 w.1)
-    ∙ ap (λ (v : Bool). pick (both v (p r.key)) 1 0 + count (λ (x : Row). both (lasts at (read_as end_of NoEnd (find_in x.key all))) (p x.key)) rs)
+    ∙ ap (λ (v : Bool). pick (both v (p r.key)) 1 0 + count (λ (x : Row). both (lasts at (read_as end_of None (find_in x.key all))) (p x.key)) rs)
     (entry_lasts (entry_of r) w.0))
   where
     entry_lasts : (e : Entry) → IsWindow e → row.lasts at e ≡ lasts at (end_of e)
@@ -300,7 +295,7 @@ module _ (l : PathLedger) (es : List Event) (a : Agrees l es) where
   ticked_keys : (at : ℕ) → SameKeys (kept (Lasting at) (windows_of l)) (such (λ (k : ℕ). awaited (record { 0 = k }) at es) (expected es))
   ticked_keys at = record { same = each }
     where
-      open_at : (k : ℕ) → lasts at (read_as end_of NoEnd (find_in k (windows_of l))) ≡ awaited (record { 0 = k }) at es
+      open_at : (k : ℕ) → lasts at (read_as end_of None (find_in k (windows_of l))) ≡ awaited (record { 0 = k }) at es
       open_at k = sym (opens_by (record { 0 = k }) at (windows_of l) refl) ∙ a.windows (record { 0 = k }) at
 
       each : (p : ℕ → Bool)
@@ -309,7 +304,7 @@ module _ (l : PathLedger) (es : List Event) (a : Agrees l es) where
       each p =
           count_such (λ (r : Row). p r.key) (keeps_row (Lasting at)) (windows_of l)
           ∙ kept_lasts at p (windows_of l) (windows_of l) (ascending_finds a.order.windows_ascend) a.all_windows
-          ∙ a.window_keys.same (λ (k : ℕ). both (lasts at (read_as end_of NoEnd (find_in k (windows_of l)))) (p k))
+          ∙ a.window_keys.same (λ (k : ℕ). both (lasts at (read_as end_of None (find_in k (windows_of l)))) (p k))
           ∙ count_same _ (λ (k : ℕ). both (awaited (record { 0 = k }) at es) (p k)) (λ k. ap (λ (v : Bool). both v (p k)) (open_at k)) (expected es)
           ∙ sym (count_such p (λ (k : ℕ). awaited (record { 0 = k }) at es) (expected es))
 
@@ -353,10 +348,10 @@ module _ (l : PathLedger) (es : List Event) (a : Agrees l es) where
 
       go : (of : ConnectionId) (other : Attribution) (v : Bool) → eqb of.0 conn.0 ≡ v
           → by_dial (dial_at of (inserted line (dials_of l))) other
-          ≡ pick v (record { path = Punched; owner = Attempt id }) (punched_for of es other)
+          ≡ pick v (record { path = Punched; owner = Some (Attempt id) }) (punched_for of es other)
       go of other true e =
           dials_by of other _
-          (subst (λ (k : ℕ). find_in k (inserted line (dials_of l)) ≡ At dial)
+          (subst (λ (k : ℕ). find_in k (inserted line (dials_of l)) ≡ Some dial)
           (sym (eqb-true of.0 conn.0 e)) (find_entered conn.0 dial (dials_of l)))
       go of other false e =
           dials_same of other _ (dials_of l) (find_inserted_other of.0 line (eqb-false of.0 conn.0 e) (dials_of l))
@@ -379,15 +374,15 @@ module _ (l : PathLedger) (es : List Event) (a : Agrees l es) where
           → by_dial (dial_at of (without conn.0 (dials_of l))) other ≡ pick v other (punched_for of es other)
       go of other true e =
           dials_by of other _
-          (subst (λ (k : ℕ). find_in k (without conn.0 (dials_of l)) ≡ Nothing)
+          (subst (λ (k : ℕ). find_in k (without conn.0 (dials_of l)) ≡ None)
           (sym (eqb-true of.0 conn.0 e)) (find_without conn.0 (dials_of l)))
       go of other false e =
           dials_same of other _ (dials_of l) (find_without_other of.0 conn.0 (eqb-false of.0 conn.0 e) (dials_of l))
           ∙ a.dials of other
 
   -- a connection gets a name, over an older one
-  pub named_agrees : (conn : ConnectionId) (x : Attribution) (peer : PeerId) (circuit : Bool) (claim : Claim) (now : ℕ)
-      → judged_by l conn peer circuit claim now ≡ found.At x → crowded conn.0 (paths_of l) ≡ false
+  pub named_agrees : (conn : ConnectionId) (x : Attribution) (peer : PeerId) (circuit : Bool) (claim : Option Claim) (now : ℕ)
+      → judged_by l conn peer circuit claim now ≡ Some x → crowded conn.0 (paths_of l) ≡ false
       → Agrees (with_paths l (inserted (path_row conn x) (paths_of l))) (got_name conn ∷ es)
   unfolding attributed awaited punched_for law.after dialing named expected
   named_agrees conn x peer circuit claim now e f =

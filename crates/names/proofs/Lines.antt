@@ -7,6 +7,7 @@ use mathlib.Core.List.{List, [], ◌∷◌, ◌++◌}
 use native.Mathlib.Omega.{arith}
 use lib.Dec.{eqb, ltb}
 use lib.ListN.{take, replicate}
+use Rattle.std.specs.Prelude.{Err, None, Ok, Option, Result, Some, ⊤}
 use Rattle.prelude.specs.Choice.{pick, both, no}
 use Rattle.ids.specs.declared.PeerId.{PeerId}
 use Rattle.ids.specs.declared.ConnectionId.{ConnectionId}
@@ -15,8 +16,6 @@ use Rattle.ids.specs.declared.NatToken.{NatToken}
 use Rattle.ids.specs.declared.StreamId.{StreamId}
 use Rattle.refusal.specs.declared.Refusal.{Refusal}
 use Rattle.refusal.specs.declared.Refusal.TheVariants.{LedgerFull, NotStarted, UnknownLine, HandshakeTooLate}
-use Rattle.path.specs.declared.FoundPath.{FoundPath}
-use Rattle.path.specs.declared.FoundPath.TheVariants as found
 use Rattle.path.specs.declared.Path.TheVariants.{Relayed, Punched}
 use Rattle.path.specs.declared.Owner.TheVariants.{Inbound}
 use Rattle.path.specs.declared.Claim.TheVariants as claim
@@ -24,7 +23,6 @@ use Rattle.path.specs.declared.DialPurpose.TheVariants.{Punch}
 use Rattle.path.specs.Judged.{judged, circuit_path, direct_path, by_dial, by_claim, by_window, unowned}
 use Rattle.rows.specs.Rows.{inserted, crowded}
 use Rattle.entries.specs.Entries.{dial_at}
-use Rattle.ledger.specs.declared.Answer.TheVariants as name
 use Rattle.ledger.specs.Ledger.{PathLedger, Attributed, empty_ledger, dials_of, windows_of, paths_of, with_dials, with_paths, dial_row, path_row, full_or, dial_started, attributed, recorded, judged_by, refuses_punches}
 use Rattle.budget.specs.declared.UpgradeBudget.{UpgradeBudget}
 use Rattle.candidates.specs.declared.Chosen.{Chosen}
@@ -33,9 +31,7 @@ use Rattle.vocabulary.specs.declared.Settings.{Settings}
 use Rattle.vocabulary.specs.declared.Host.{Host}
 use Rattle.vocabulary.specs.declared.StreamInput.{StreamInput}
 use Rattle.vocabulary.specs.declared.Effect.{Effect}
-use Rattle.vocabulary.specs.declared.Effect.TheVariants.{Nothing, Path, Burst, Upgrade, Close, Send, Reset, Open}
-use Rattle.vocabulary.specs.declared.Outcome.{Outcome}
-use Rattle.vocabulary.specs.declared.Outcome.TheVariants as outcome
+use Rattle.vocabulary.specs.declared.Effect.TheVariants.{Path, Burst, Upgrade, Close, Send, Reset, Open}
 use Rattle.circuit.specs.declared.state.Phase.{Phase}
 use Rattle.circuit.specs.declared.state.Phase.TheVariants.{Handshaking, Done}
 use Rattle.circuit.specs.declared.decision.Message.{Message}
@@ -62,10 +58,8 @@ use Rattle.history.proofs.Made.{framed_in, chosen_in}
 use Rattle.history.proofs.Run.{step_keeps, begun_rel}
 use Rattle.history.proofs.Answers.{step_answers}
 use Rattle.history.proofs.Buffers.{step_gives}
-use Rattle.vocabulary.specs.declared.Live.{Live}
-use Rattle.vocabulary.specs.declared.Offer.{Offer}
 use Rattle.journal_lines.specs.declared.Line.{Line}
-use Rattle.journal_lines.specs.declared.Line.TheVariants.{Start, Up, Input, Tick, Wrote, Down, Dial, Forget, Attribute, Unknown}
+use Rattle.journal_lines.specs.declared.Line.TheVariants.{Start, Up, Input, Tick, Wrote, Down, Dial, Forget, Attribute}
 use Rattle.journal_calls.specs.Calls.{Journal, new_journal, started, no_effects, silent, refused, naming, effects_of, Leaves, settled, start_in, start_turn, ledger_by, up_turn, input_turn, expired, tick_turn, wrote_turn, down_turn, dialed_by, dial_turn, forget_turn, claim_for, named_by, attribute_turn, Taken}
 use Rattle.journal_turns.specs.Turns.{counted, host_of, digits_bytes, apart, turn_of, read, line_turn}
 use Rattle.names.specs.Events.{Event, dialed, got_name, forgot, awaited, dialing, expected, is_full}
@@ -79,31 +73,32 @@ use Rattle.wire.specs.Lists.{broken, entries}
 use Rattle.history.specs.Numbers.{number_in, answered_with}
 use Rattle.history.specs.Refuses.{refuses, lends_broken, lends_full, turned}
 use Rattle.history.proofs.Refuses.{some_number, step_refuses}
+use Rattle.path.specs.declared.Attribution.{Attribution}
 
 -- the host's answers, here and there
-host_same : (at : ℕ) (l : Live) (o : Offer) → host_by at l o ≡ host_of at l o
+host_same : (at : ℕ) (l : Option ConnectionId) (o : Option (ConnectionId × StreamId)) → host_by at l o ≡ host_of at l o
 unfolding host_of
 host_same at l o = refl
 
 -- ---- what is said of a decision that is carried out, and of its answer
 
 -- the message in the bytes that are lent for it
-sent_bytes : (connect sent : List ℕ) (x : Message) → take (length_of x) (sent_after connect sent x) ≡ bytes_of (message_of connect x)
+sent_bytes : (connect sent : List ℕ) (x : Option Message) → take (length_of x) (sent_after connect sent x) ≡ bytes_of (message_of connect x)
 unfolding length_of sent_after message_of
-sent_bytes connect sent message.None = refl
-sent_bytes connect sent (message.Connect n) = refl
-sent_bytes connect sent message.Sync = refl
+sent_bytes connect sent None = refl
+sent_bytes connect sent (Some (message.Connect n)) = refl
+sent_bytes connect sent (Some message.Sync) = refl
 
 -- of a message no more is said than its bytes in use
-place_same : (a b : Framed) → bytes_of a ≡ bytes_of b → (targets : List (List ℕ)) (e : Effect) → said_in a targets e ≡ said_in b targets e
-place_same a b q targets Nothing = refl
-place_same a b q targets (Path peer relay conn) = refl
-place_same a b q targets (Burst times payload) = refl
-place_same a b q targets (Upgrade peer old new) = refl
-place_same a b q targets (Close conn) = refl
-place_same a b q targets (Send conn stream) = ap (λ (z : List ℕ). send conn stream z ∷ []) q
-place_same a b q targets (Reset conn stream) = refl
-place_same a b q targets (Open conn stream) = refl
+place_same : (a b : Framed) → bytes_of a ≡ bytes_of b → (targets : List (List ℕ)) (e : Option Effect) → said_in a targets e ≡ said_in b targets e
+place_same a b q targets None = refl
+place_same a b q targets (Some (Path peer relay conn)) = refl
+place_same a b q targets (Some (Burst times payload)) = refl
+place_same a b q targets (Some (Upgrade peer old new)) = refl
+place_same a b q targets (Some (Close conn)) = refl
+place_same a b q targets (Some (Send conn stream)) = ap (λ (z : List ℕ). send conn stream z ∷ []) q
+place_same a b q targets (Some (Reset conn stream)) = refl
+place_same a b q targets (Some (Open conn stream)) = refl
 
 four : {a b c d e f g h : List Says} → a ≡ e → b ≡ f → c ≡ g → d ≡ h → a ++ (b ++ (c ++ d)) ≡ e ++ (f ++ (g ++ h))
 four p q r t = rw (p, q, r, t)
@@ -119,7 +114,7 @@ said_same e after connect sent aims = four (each e.first) (each e.second) (each 
     aimed : List (List ℕ)
     aimed = entries (take e.core.targets aims)
 
-    each : (x : Effect) → said_in lent aimed x ≡ said_in (message_of connect e.message) aimed x
+    each : (x : Option Effect) → said_in lent aimed x ≡ said_in (message_of connect e.message) aimed x
     each = place_same lent (message_of connect e.message) (sent_bytes connect sent e.message) aimed
 
 abbrev begun_by : Settings → Who → Begun
@@ -163,12 +158,12 @@ module _ (s : Settings) (j : Journal) (d : Diary) (m : Meets s j d) where
   unfolding effects_of refused answer_of
   settled_follows e x after w d' q b f r g h = go e.outcome f r g h
     where
-      go : (o : Outcome) → said_by (answer_by e x) ≡ (pick (is_refused o) nothing w).said
+      go : (o : Result ⊤ Refusal) → said_by (answer_by e x) ≡ (pick (is_refused o) nothing w).said
           → Rel (begun_by s d.who) (answer_by e x).circuit (pick (is_refused o) d.book d'.book)
           → (is_refused o ≡ false → Agrees x.ledger d'.events)
           → after ≡ pick (is_refused o) d.reply d'.reply
           → Follows s d (record { turn = settled j e x o; reply = after }) (number_in o) (record { effects = w.said; name = []; number = 0 }) d'
-      go outcome.Accepted f r g h =
+      go (Ok tt) f r g h =
           record {
             out = ap (λ (z : List Says). record { effects = z; name = []; number = 0 })
                 (said_same e x.connect j.circuit.connect j.sent x.targets ∙ f);
@@ -180,7 +175,7 @@ module _ (s : Settings) (j : Journal) (d : Diary) (m : Meets s j d) where
             };
             reply = h;
           }
-      go (outcome.Refused why) f r g h =
+      go (Err why) f r g h =
           record { out = rw (some_number why); next = rw (some_number why) m; reply = rw (some_number why) h }
 
 -- what is handed back
@@ -193,10 +188,10 @@ buffer_of [] = []
 buffer_of (x ∷ xs) = x
 
 -- an accepted tick ticks the ledger
-expired_agrees : (o : Outcome) (l : PathLedger) (es : List Event) (at : ℕ) → is_refused o ≡ false → Agrees l es
+expired_agrees : (o : Result ⊤ Refusal) (l : PathLedger) (es : List Event) (at : ℕ) → is_refused o ≡ false → Agrees l es
     → Agrees (expired o l at) (event.ticked at ∷ es)
-expired_agrees outcome.Accepted l es at q a = ticked_agrees l es a at
-expired_agrees (outcome.Refused why) l es at q a = absurd (let z : ◌≡◌ {A = ℕ} 0 1 = cc in omega arith)
+expired_agrees (Ok tt) l es at q a = ticked_agrees l es a at
+expired_agrees (Err why) l es at q a = absurd (let z : ◌≡◌ {A = ℕ} 0 1 = cc in omega arith)
 
 same_reply : (v : Bool) (x : List ℕ) → x ≡ pick v x x
 same_reply true x = refl
@@ -222,7 +217,7 @@ module _ (s : Settings) (j : Journal) (d : Diary) (m : Meets s j d) where
   unfolding refuses_punches
   room_same = keys_full d.who.source.0 (windows_of j.ledger) (expected d.events) m.ledger.window_keys
 
-  up_follows : (at : ℕ) (l : Live) (o : Offer) (own : List ℕ) (peer : PeerId) (conn : ConnectionId) (relayed : Bool)
+  up_follows : (at : ℕ) (l : Option ConnectionId) (o : Option (ConnectionId × StreamId)) (own : List ℕ) (peer : PeerId) (conn : ConnectionId) (relayed : Bool)
       → Follows s d (apart d.reply (up_turn j (host_by at l o) own peer conn relayed))
       (refuses (broken own) false d.book (up empty_ledger (host_by at l o) own peer conn relayed))
       (says s d (up empty_ledger (host_by at l o) own peer conn relayed))
@@ -238,7 +233,7 @@ module _ (s : Settings) (j : Journal) (d : Diary) (m : Meets s j d) where
       (settled_follows s j d m e _ d.reply w _ refl refl f.effects (step_keeps k j.circuit d.book m.rel x).rel
       (left_agrees (ledger_by j e) w (is_refused e.outcome) f.ledgers f.room) (same_reply (is_refused e.outcome) d.reply))
 
-  tick_follows : (at : ℕ) (l : Live) (o : Offer) (own : List ℕ)
+  tick_follows : (at : ℕ) (l : Option ConnectionId) (o : Option (ConnectionId × StreamId)) (own : List ℕ)
       → Follows s d (apart d.reply (tick_turn j (host_by at l o) own))
       (refuses (broken own) false d.book (tick empty_ledger (host_by at l o) own))
       (says s d (tick empty_ledger (host_by at l o) own))
@@ -257,7 +252,7 @@ module _ (s : Settings) (j : Journal) (d : Diary) (m : Meets s j d) where
       (left_agrees (ledger_by j e) w (is_refused e.outcome) f.ledgers f.room q))
       (same_reply (is_refused e.outcome) d.reply))
 
-  input_follows : (at : ℕ) (l : Live) (o : Offer) (own : List ℕ) (stream : StreamId) (kind : StreamInput) (bytes : List ℕ) (pending : Bool)
+  input_follows : (at : ℕ) (l : Option ConnectionId) (o : Option (ConnectionId × StreamId)) (own : List ℕ) (stream : StreamId) (kind : StreamInput) (bytes : List ℕ) (pending : Bool)
       → Follows s d (input_turn j (host_by at l o) own d.reply stream kind bytes pending)
       (refuses (broken own) (no_room d) d.book (input empty_ledger d.reply (host_by at l o) own stream kind bytes pending))
       (says s d (input empty_ledger d.reply (host_by at l o) own stream kind bytes pending))
@@ -392,35 +387,35 @@ module _ (s : Settings) (j : Journal) (d : Diary) (m : Meets s j d) where
       (go (both (eqb conn.0 d.who.circuit.0) (no (is_over d.book.stage))))
     where
       go : (v : Bool)
-          → circuit_path (pick v (claim.Circuit d.who.relay Inbound) claim.None)
-          ≡ pick v (found.At (record { path = Relayed d.who.relay; owner = Inbound })) found.None
+          → circuit_path (pick v (Some (claim.Circuit d.who.relay (Some Inbound))) None)
+          ≡ pick v (Some (record { path = Relayed d.who.relay; owner = Some Inbound })) None
       go true = refl
       go false = refl
   judged_named at peer conn false =
-      ap found.At
-      (ap (λ (v : Bool). by_dial (dial_at conn (dials_of j.ledger)) (pick v (record { path = Punched; owner = Inbound }) unowned)) (m.ledger.windows peer at)
-      ∙ m.ledger.dials conn (pick (awaited peer at d.events) (record { path = Punched; owner = Inbound }) unowned))
+      ap Some
+      (ap (λ (v : Bool). by_dial (dial_at conn (dials_of j.ledger)) (pick v (record { path = Punched; owner = Some Inbound }) unowned)) (m.ledger.windows peer at)
+      ∙ m.ledger.dials conn (pick (awaited peer at d.events) (record { path = Punched; owner = Some Inbound }) unowned))
 
   -- a name is recorded where it is no 65th; without a name no row is needed
-  named_follows : (at : ℕ) (peer : PeerId) (conn : ConnectionId) (relayed : Bool) (f : FoundPath)
+  named_follows : (at : ℕ) (peer : PeerId) (conn : ConnectionId) (relayed : Bool) (f : Option Attribution)
       → judged_by j.ledger conn peer relayed (claim_for j.circuit.core conn relayed) at ≡ f
       → Follows s d (apart d.reply (named_by j (recorded j.ledger conn f).ledger (recorded j.ledger conn f).answer))
       (pick (both (is_name f) (is_full conn.0 (event.named d.events))) 4 0)
       (record { effects = []; name = f ∷ []; number = 0 })
       (adds d (pick (is_name f) (got_name conn ∷ d.events) d.events))
   unfolding naming
-  named_follows at peer conn relayed found.None e =
+  named_follows at peer conn relayed None e =
       record { out = refl; next = record { settings = m.settings; begun = m.begun; rel = m.rel; ledger = m.ledger }; reply = refl }
-  named_follows at peer conn relayed (found.At x) e =
+  named_follows at peer conn relayed (Some x) e =
       rw (← keys_full conn.0 (paths_of j.ledger) (event.named d.events) m.ledger.path_keys) (go (crowded conn.0 (paths_of j.ledger)) refl)
     where
       one : Bool → Attributed
       one v =
-          pick v (record { ledger = j.ledger; answer = name.Refused LedgerFull })
-          (record { ledger = with_paths j.ledger (inserted (path_row conn x) (paths_of j.ledger)); answer = name.Path x })
+          pick v (record { ledger = j.ledger; answer = Err LedgerFull })
+          (record { ledger = with_paths j.ledger (inserted (path_row conn x) (paths_of j.ledger)); answer = Ok (Some x) })
 
       go : (v : Bool) → crowded conn.0 (paths_of j.ledger) ≡ v
-          → Follows s d (apart d.reply (named_by j (one v).ledger (one v).answer)) (pick v 4 0) (record { effects = []; name = found.At x ∷ []; number = 0 })
+          → Follows s d (apart d.reply (named_by j (one v).ledger (one v).answer)) (pick v 4 0) (record { effects = []; name = Some x ∷ []; number = 0 })
           (adds d (got_name conn ∷ d.events))
       go true q = refused_follows s j d m LedgerFull _ _
       go false q =
@@ -458,18 +453,18 @@ module _ (s : Settings) (j : Journal) (d : Diary) (m : Meets s j d) where
       go true = f
       go false = refused_follows s j d m NotStarted o d'
 
-  turn_follows : (line : List ℕ) (call : Line)
+  turn_follows : (line : List ℕ) (call : Option Line)
       → Follows s d (turn_of line j d.reply call) (number s line d call) (out_by s line d call) (entered s line d call)
   unfolding turn_of
-  turn_follows line (Start at source relay conn) = start_follows s j d m at source relay conn
-  turn_follows line (Up at peer conn relayed l o pending own) =
+  turn_follows line (Some (Start at source relay conn)) = start_follows s j d m at source relay conn
+  turn_follows line (Some (Up at peer conn relayed l o pending own)) =
       once _ _ _ _
       (subst
       (λ (h : Host). Follows s d (apart d.reply (up_turn j h (digits_bytes line own) peer conn relayed))
       (refuses (broken (digits_bytes line own)) false d.book (up_by line at peer conn relayed l o own))
       (says s d (up_by line at peer conn relayed l o own)) (called s d (up_by line at peer conn relayed l o own) d.reply))
       (host_same at l o) (up_follows s j d m at l o (digits_bytes line own) peer conn relayed))
-  turn_follows line (Input at stream kind bytes l o pending own) =
+  turn_follows line (Some (Input at stream kind bytes l o pending own)) =
       once _ _ _ _
       (subst
       (λ (h : Host). Follows s d (input_turn j h (digits_bytes line own) d.reply stream kind (digits_bytes line bytes) pending)
@@ -479,19 +474,19 @@ module _ (s : Settings) (j : Journal) (d : Diary) (m : Meets s j d) where
       (gathers (host_by at l o) d.reply stream kind (digits_bytes line bytes) d.book.stage)))
       (host_same at l o)
       (input_follows s j d m at l o (digits_bytes line own) stream kind (digits_bytes line bytes) pending))
-  turn_follows line (Tick at l o own) =
+  turn_follows line (Some (Tick at l o own)) =
       once _ _ _ _
       (subst
       (λ (h : Host). Follows s d (apart d.reply (tick_turn j h (digits_bytes line own)))
       (refuses (broken (digits_bytes line own)) false d.book (tick_by line at l o own)) (says s d (tick_by line at l o own))
       (adds (called s d (tick_by line at l o own) d.reply) (event.ticked at ∷ (called s d (tick_by line at l o own) d.reply).events)))
       (host_same at l o) (tick_follows s j d m at l o (digits_bytes line own)))
-  turn_follows line (Wrote at conn stream) = once _ _ _ _ (wrote_follows s j d m at conn stream)
-  turn_follows line (Down at peer conn) = once _ _ _ _ (down_follows s j d m at peer conn)
-  turn_follows line (Dial at conn token id) = once _ _ _ _ (dial_follows s j d m conn token id)
-  turn_follows line (Forget at conn) = once _ _ _ _ (forget_follows s j d m conn)
-  turn_follows line (Attribute at peer conn relayed) = once _ _ _ _ (attribute_follows s j d m at peer conn relayed)
-  turn_follows line Unknown = refused_follows s j d m UnknownLine _ _
+  turn_follows line (Some (Wrote at conn stream)) = once _ _ _ _ (wrote_follows s j d m at conn stream)
+  turn_follows line (Some (Down at peer conn)) = once _ _ _ _ (down_follows s j d m at peer conn)
+  turn_follows line (Some (Dial at conn token id)) = once _ _ _ _ (dial_follows s j d m conn token id)
+  turn_follows line (Some (Forget at conn)) = once _ _ _ _ (forget_follows s j d m conn)
+  turn_follows line (Some (Attribute at peer conn relayed)) = once _ _ _ _ (attribute_follows s j d m at peer conn relayed)
+  turn_follows line None = refused_follows s j d m UnknownLine _ _
 
 line_follows : (s : Settings) (j : Journal) (d : Diary) → Meets s j d → (line : List ℕ) (ended : Bool)
     → Follows s d (line_turn j d.reply line ended) (number s line d (read line ended)) (out_by s line d (read line ended)) (entered s line d (read line ended))
@@ -506,7 +501,7 @@ all_follow : (s : Settings) (ls : List (List ℕ × Bool)) (j : Journal) (d : Di
 unfolding outs tells_lines
 all_follow s [] j d m reply e = refl
 all_follow s (l ∷ ls) j d m reply e =
-    let call : Line = read l.0 l.1 in
+    let call : Option Line = read l.0 l.1 in
     let f : Follows s d (line_turn j reply l.0 l.1) (number s l.0 d call) (out_by s l.0 d call) (entered s l.0 d call)
     = subst (λ (r : List ℕ). Follows s d (line_turn j r l.0 l.1) (number s l.0 d call) (out_by s l.0 d call) (entered s l.0 d call)) (sym e)
     (line_follows s j d m l.0 l.1) in

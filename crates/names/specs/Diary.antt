@@ -1,6 +1,6 @@
 -- A diary of a journal (RULES.md, sections 12.5 to 12.7): whether a start was accepted, whose circuit it is, the circuit's book, the reply
 -- buffer, and what the accepted lines brought for names. It is fed the lines and nothing else, and tells of each what the journal prints.
-use Rattle.std.specs.Prelude.{◌≡◌, ℕ, ◌+◌, Bool, true, false, List, [], ◌∷◌, ◌++◌, eqb, ltb, take, replicate}
+use Rattle.std.specs.Prelude.{◌≡◌, ℕ, ◌+◌, Bool, true, false, List, [], ◌∷◌, ◌++◌, eqb, ltb, take, replicate, None, Option, Some}
 use Rattle.prelude.specs.Choice.{pick, both, no}
 use Rattle.time.specs.Time.{last}
 use Rattle.ids.specs.declared.PeerId.{PeerId}
@@ -10,14 +10,10 @@ use Rattle.refusal.specs.Number.{number_of}
 use Rattle.wire.specs.Lists.{broken, entries}
 use Rattle.path.specs.declared.Path.TheVariants.{Relayed}
 use Rattle.path.specs.declared.Owner.TheVariants.{Inbound}
-use Rattle.path.specs.declared.FoundPath.{FoundPath}
-use Rattle.path.specs.declared.FoundPath.TheVariants as found
 use Rattle.frames.specs.declared.Framed.{Framed}
 use Rattle.ledger.specs.Ledger.{empty_ledger}
 use Rattle.vocabulary.specs.declared.Settings.{Settings}
 use Rattle.vocabulary.specs.declared.Host.{Host}
-use Rattle.vocabulary.specs.declared.Live.{Live}
-use Rattle.vocabulary.specs.declared.Offer.{Offer}
 use Rattle.vocabulary.specs.declared.StreamInput.{StreamInput}
 use Rattle.history.specs.Calls.{Call, up, input, tick, wrote, down}
 use Rattle.history.specs.Book.{Book, Who, fresh, note}
@@ -27,13 +23,14 @@ use Rattle.history.specs.Answers.{who_of, said_in}
 use Rattle.history.specs.Questions.{is_over}
 use Rattle.journal_lines.specs.declared.Digits.{Digits}
 use Rattle.journal_lines.specs.declared.Line.{Line}
-use Rattle.journal_lines.specs.declared.Line.TheVariants.{Start, Up, Input, Tick, Wrote, Down, Dial, Forget, Attribute, Unknown}
+use Rattle.journal_lines.specs.declared.Line.TheVariants.{Start, Up, Input, Tick, Wrote, Down, Dial, Forget, Attribute}
 use Rattle.journal_effects.specs.declared.Effects.{Effects}
 use Rattle.journal_calls.specs.declared.Said.{Said}
 use Rattle.journal_calls.specs.declared.Said.TheVariants as said
 use Rattle.journal_calls.specs.Calls.{Journal, Turned, new_journal}
 use Rattle.journal_turns.specs.Turns.{digits_bytes, read, line_turn}
 use Rattle.names.specs.Events.{Event, dialed, got_name, forgot, replied, gave_up, ticked, direct_name, dialing, named, expected, is_full}
+use Rattle.path.specs.declared.Attribution.{Attribution}
 
 pub record Diary : Type 0 where
   pub started : Bool
@@ -44,18 +41,18 @@ pub record Diary : Type 0 where
 
 -- ---- the circuit's calls that lines make (section 12.5)
 
-abbrev pub host_by : ℕ → Live → Offer → Host
+abbrev pub host_by : ℕ → Option ConnectionId → Option (ConnectionId × StreamId) → Host
 host_by at l o = record { at = at; live = l; offer = o }
 
 -- the book does not look at the ledger that is lent
-abbrev pub up_by : List ℕ → ℕ → PeerId → ConnectionId → Bool → Live → Offer → Digits → Call
+abbrev pub up_by : List ℕ → ℕ → PeerId → ConnectionId → Bool → Option ConnectionId → Option (ConnectionId × StreamId) → Digits → Call
 up_by line at peer conn relayed l o own = up empty_ledger (host_by at l o) (digits_bytes line own) peer conn relayed
 
-abbrev pub input_by : List ℕ → List ℕ → ℕ → StreamId → StreamInput → Digits → Live → Offer → Bool → Digits → Call
+abbrev pub input_by : List ℕ → List ℕ → ℕ → StreamId → StreamInput → Digits → Option ConnectionId → Option (ConnectionId × StreamId) → Bool → Digits → Call
 input_by line reply at stream k bytes l o pending own =
     input empty_ledger reply (host_by at l o) (digits_bytes line own) stream k (digits_bytes line bytes) pending
 
-abbrev pub tick_by : List ℕ → ℕ → Live → Offer → Digits → Call
+abbrev pub tick_by : List ℕ → ℕ → Option ConnectionId → Option (ConnectionId × StreamId) → Digits → Call
 tick_by line at l o own = tick empty_ledger (host_by at l o) (digits_bytes line own)
 
 -- ---- what an accepted line adds
@@ -81,40 +78,40 @@ abbrev pub adds : Diary → List Event → Diary
 adds d es = record { started = d.started; who = d.who; book = d.book; reply = d.reply; events = es }
 
 -- a circuit is relayed, by its relay, where it is the journal's circuit and that is not over; else it gets no name (sections 10.5, 11.9)
-abbrev pub name_of : Diary → ℕ → PeerId → ConnectionId → Bool → FoundPath
+abbrev pub name_of : Diary → ℕ → PeerId → ConnectionId → Bool → Option Attribution
 name_of d at peer conn true =
     pick (both (eqb conn.0 d.who.circuit.0) (no (is_over d.book.stage)))
-    (found.At (record { path = Relayed d.who.relay; owner = Inbound }))
-    found.None
-name_of d at peer conn false = found.At (direct_name peer conn at d.events)
+    (Some (record { path = Relayed d.who.relay; owner = Some Inbound }))
+    None
+name_of d at peer conn false = Some (direct_name peer conn at d.events)
 
-abbrev pub is_name : FoundPath → Bool
-is_name found.None = false
-is_name (found.At name) = true
+abbrev pub is_name : Option Attribution → Bool
+is_name None = false
+is_name (Some name) = true
 
-abbrev pub entered : Settings → List ℕ → Diary → Line → Diary
-entered s line d (Start at source relay conn) =
+abbrev pub entered : Settings → List ℕ → Diary → Option Line → Diary
+entered s line d (Some (Start at source relay conn)) =
     record { started = true; who = who_of source relay conn; book = fresh s at; reply = d.reply; events = d.events }
-entered s line d (Up at peer conn relayed l o pending own) = called s d (up_by line at peer conn relayed l o own) d.reply
-entered s line d (Input at stream k bytes l o pending own) =
+entered s line d (Some (Up at peer conn relayed l o pending own)) = called s d (up_by line at peer conn relayed l o own) d.reply
+entered s line d (Some (Input at stream k bytes l o pending own)) =
     called s d (input_by line d.reply at stream k bytes l o pending own)
     (gathers (host_by at l o) d.reply stream k (digits_bytes line bytes) d.book.stage)
-entered s line d (Tick at l o own) = adds after (ticked at ∷ after.events)
+entered s line d (Some (Tick at l o own)) = adds after (ticked at ∷ after.events)
   where
     after : Diary
     after = called s d (tick_by line at l o own) d.reply
-entered s line d (Wrote at conn stream) = called s d (wrote at conn stream) d.reply
-entered s line d (Down at peer conn) = called s d (down at peer conn) d.reply
-entered s line d (Dial at conn token id) = adds d (dialed conn id ∷ d.events)
-entered s line d (Forget at conn) = adds d (forgot conn ∷ d.events)
-entered s line d (Attribute at peer conn relayed) = adds d (pick (is_name (name_of d at peer conn relayed)) (got_name conn ∷ d.events) d.events)
-entered s line d Unknown = d
+entered s line d (Some (Wrote at conn stream)) = called s d (wrote at conn stream) d.reply
+entered s line d (Some (Down at peer conn)) = called s d (down at peer conn) d.reply
+entered s line d (Some (Dial at conn token id)) = adds d (dialed conn id ∷ d.events)
+entered s line d (Some (Forget at conn)) = adds d (forgot conn ∷ d.events)
+entered s line d (Some (Attribute at peer conn relayed)) = adds d (pick (is_name (name_of d at peer conn relayed)) (got_name conn ∷ d.events) d.events)
+entered s line d None = d
 
 -- ---- what is told of a line: its effects, the name that it gives, and the number that it is refused with, 0 where it is accepted
 
 pub record Out : Type 0 where
   pub effects : List Says
-  pub name : List FoundPath
+  pub name : List (Option Attribution)
   pub number : ℕ
 
 abbrev pub still : Out
@@ -127,17 +124,17 @@ abbrev pub says : Settings → Diary → Call → Out
 says s d k = record { effects = (tells s d.who d.book k).said; name = []; number = 0 }
 
 -- an accepted line
-abbrev pub out_by : Settings → List ℕ → Diary → Line → Out
-out_by s line d (Start at source relay conn) = still
-out_by s line d (Up at peer conn relayed l o pending own) = says s d (up_by line at peer conn relayed l o own)
-out_by s line d (Input at stream k bytes l o pending own) = says s d (input_by line d.reply at stream k bytes l o pending own)
-out_by s line d (Tick at l o own) = says s d (tick_by line at l o own)
-out_by s line d (Wrote at conn stream) = still
-out_by s line d (Down at peer conn) = still
-out_by s line d (Dial at conn token id) = still
-out_by s line d (Forget at conn) = still
-out_by s line d (Attribute at peer conn relayed) = record { effects = []; name = name_of d at peer conn relayed ∷ []; number = 0 }
-out_by s line d Unknown = still
+abbrev pub out_by : Settings → List ℕ → Diary → Option Line → Out
+out_by s line d (Some (Start at source relay conn)) = still
+out_by s line d (Some (Up at peer conn relayed l o pending own)) = says s d (up_by line at peer conn relayed l o own)
+out_by s line d (Some (Input at stream k bytes l o pending own)) = says s d (input_by line d.reply at stream k bytes l o pending own)
+out_by s line d (Some (Tick at l o own)) = says s d (tick_by line at l o own)
+out_by s line d (Some (Wrote at conn stream)) = still
+out_by s line d (Some (Down at peer conn)) = still
+out_by s line d (Some (Dial at conn token id)) = still
+out_by s line d (Some (Forget at conn)) = still
+out_by s line d (Some (Attribute at peer conn relayed)) = record { effects = []; name = name_of d at peer conn relayed ∷ []; number = 0 }
+out_by s line d None = still
 
 -- ---- the number of a refused line (section 12.6)
 
@@ -150,20 +147,20 @@ abbrev pub no_room : Diary → Bool
 no_room d = is_full d.who.source.0 (expected d.events)
 
 -- 11; 12; 3 of a start (section 11.3), by the plain sum; 1, 5, 2 and 4 of the circuit; 4 of a dial, and of an attribute that gives a name
-abbrev pub number : Settings → List ℕ → Diary → Line → ℕ
-number s line d (Start at source relay conn) = pick (ltb last (at + s.handshake)) 3 0
-number s line d (Up at peer conn relayed l o pending own) =
+abbrev pub number : Settings → List ℕ → Diary → Option Line → ℕ
+number s line d (Some (Start at source relay conn)) = pick (ltb last (at + s.handshake)) 3 0
+number s line d (Some (Up at peer conn relayed l o pending own)) =
     once_started d (refuses (broken (digits_bytes line own)) false d.book (up_by line at peer conn relayed l o own))
-number s line d (Input at stream k bytes l o pending own) =
+number s line d (Some (Input at stream k bytes l o pending own)) =
     once_started d (refuses (broken (digits_bytes line own)) (no_room d) d.book (input_by line d.reply at stream k bytes l o pending own))
-number s line d (Tick at l o own) = once_started d (refuses (broken (digits_bytes line own)) false d.book (tick_by line at l o own))
-number s line d (Wrote at conn stream) = once_started d 0
-number s line d (Down at peer conn) = once_started d 0
-number s line d (Dial at conn token id) = once_started d (pick (is_full conn.0 (dialing d.events)) 4 0)
-number s line d (Forget at conn) = once_started d 0
-number s line d (Attribute at peer conn relayed) =
+number s line d (Some (Tick at l o own)) = once_started d (refuses (broken (digits_bytes line own)) false d.book (tick_by line at l o own))
+number s line d (Some (Wrote at conn stream)) = once_started d 0
+number s line d (Some (Down at peer conn)) = once_started d 0
+number s line d (Some (Dial at conn token id)) = once_started d (pick (is_full conn.0 (dialing d.events)) 4 0)
+number s line d (Some (Forget at conn)) = once_started d 0
+number s line d (Some (Attribute at peer conn relayed)) =
     once_started d (pick (both (is_name (name_of d at peer conn relayed)) (is_full conn.0 (named d.events))) 4 0)
-number s line d Unknown = 11
+number s line d None = 11
 
 -- ---- all lines, each with whether a line feed ends it; a refused line changes nothing
 
@@ -178,10 +175,10 @@ blank s =
       events = [];
     }
 
-abbrev pub told_of : Settings → List ℕ → Diary → Line → Out
+abbrev pub told_of : Settings → List ℕ → Diary → Option Line → Out
 told_of s line d call = pick (turned (number s line d call)) (refused_by (number s line d call)) (out_by s line d call)
 
-abbrev pub next_of : Settings → List ℕ → Diary → Line → Diary
+abbrev pub next_of : Settings → List ℕ → Diary → Option Line → Diary
 next_of s line d call = pick (turned (number s line d call)) d (entered s line d call)
 
 unfoldable pub tells_lines : Settings → Diary → List (List ℕ × Bool) → List Out

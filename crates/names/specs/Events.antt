@@ -1,13 +1,13 @@
 -- What a journal's accepted lines brought for names (RULES.md, section 10.8), the latest first, and what follows from it: the name of a
 -- direct connection, and whether a 65th row would be needed. No table, no row.
-use Rattle.std.specs.Prelude.{◌≡◌, ℕ, max, ◌<◌, Bool, true, false, List, [], ◌∷◌, ◌++◌, ltb, leb, eqb, length}
+use Rattle.std.specs.Prelude.{◌≡◌, ℕ, max, ◌<◌, Bool, true, false, List, [], ◌∷◌, ◌++◌, ltb, leb, eqb, length, None, Some}
 use Rattle.prelude.specs.Lists.{such}
 use Rattle.prelude.specs.Choice.{pick, both, either, no}
 use Rattle.ids.specs.declared.PeerId.{PeerId}
 use Rattle.ids.specs.declared.ConnectionId.{ConnectionId}
 use Rattle.ids.specs.declared.ConnectId.{ConnectId}
 use Rattle.path.specs.declared.Path.TheVariants.{Punched, Direct}
-use Rattle.path.specs.declared.Owner.TheVariants.{Attempt, Inbound, None}
+use Rattle.path.specs.declared.Owner.TheVariants.{Attempt, Inbound}
 use Rattle.path.specs.declared.Attribution.{Attribution}
 
 -- a punch dial of an attempt was started; a connection got a name; a connection was forgotten; a reply opened the window of a circuit's
@@ -34,7 +34,7 @@ awaited peer n (ticked at ∷ es) = awaited peer (max n at) es
 -- the connection's latest punch dial since it was last forgotten gives the attempt; where there is none, another name
 unfoldable pub punched_for : ConnectionId → List Event → Attribution → Attribution
 punched_for conn [] other = other
-punched_for conn (dialed of id ∷ es) other = pick (eqb conn.0 of.0) (record { path = Punched; owner = Attempt id }) (punched_for conn es other)
+punched_for conn (dialed of id ∷ es) other = pick (eqb conn.0 of.0) (record { path = Punched; owner = Some (Attempt id) }) (punched_for conn es other)
 punched_for conn (got_name of ∷ es) other = punched_for conn es other
 punched_for conn (forgot of ∷ es) other = pick (eqb conn.0 of.0) other (punched_for conn es other)
 punched_for conn (replied of deadline ∷ es) other = punched_for conn es other
@@ -44,7 +44,7 @@ punched_for conn (ticked at ∷ es) other = punched_for conn es other
 -- a direct connection (section 10.5): punched for the attempt; else punched inbound, where a punch is awaited of its peer; else direct
 abbrev pub direct_name : PeerId → ConnectionId → ℕ → List Event → Attribution
 direct_name peer conn at es =
-    punched_for conn es (pick (awaited peer at es) (record { path = Punched; owner = Inbound }) (record { path = Direct; owner = None }))
+    punched_for conn es (pick (awaited peer at es) (record { path = Punched; owner = Some Inbound }) (record { path = Direct; owner = None }))
 
 -- ---- number 4 (sections 10.1 and 10.8): connections and peers by their numbers, each once
 
@@ -135,7 +135,7 @@ pub record Since (conn : ConnectionId) (e : ConnectionId → Event) (es : List E
 
 pub data Latest (conn : ConnectionId) (es : List Event) : Type 0 where
   by_dial : (id : ConnectId) → Since conn (λ of. dialed of id) es
-      → ((other : Attribution) → punched_for conn es other ≡ record { path = Punched; owner = Attempt id }) → Latest conn es
+      → ((other : Attribution) → punched_for conn es other ≡ record { path = Punched; owner = Some (Attempt id) }) → Latest conn es
   by_forget : Since conn forgot es → ((other : Attribution) → punched_for conn es other ≡ other) → Latest conn es
   never : Untouched conn es → ((other : Attribution) → punched_for conn es other ≡ other) → Latest conn es
 

@@ -14,18 +14,18 @@ pub enum Path {
     Direct,
 }
 
-// The machine that a path belongs to: a connect attempt, an inbound circuit, or no one.
+// The machine that a path belongs to: a connect attempt, or an inbound circuit.
 #[derive(Clone, Copy)]
 pub enum Owner {
     Attempt(ConnectId),
     Inbound,
-    None,
 }
 
 #[derive(Clone, Copy)]
 pub struct Attribution {
     pub path: Path,
-    pub owner: Owner,
+    // No one's, if none.
+    pub owner: Option<Owner>,
 }
 
 // Why a connection was dialed. Of a relay its handle is known, not its address.
@@ -43,169 +43,141 @@ pub struct Dial {
     pub purpose: DialPurpose,
 }
 
-#[derive(Clone, Copy)]
-pub enum FoundDial {
-    At(Dial),
-    None,
-}
-
-#[derive(Clone, Copy)]
-pub enum FoundPath {
-    At(Attribution),
-    None,
-}
-
 // What a machine claims about a connection as it is established.
 #[derive(Clone, Copy)]
 pub enum Claim {
-    None,
     // The circuit that its owner promoted through the relay.
-    Circuit { relay: PeerId, owner: Owner },
+    Circuit { relay: PeerId, owner: Option<Owner> },
     // A direct connection that the attempt takes as its own.
     Direct(ConnectId),
 }
 
 // Leaving a relay for a direct connection: reported against the owner of the relayed path.
 #[derive(Clone, Copy)]
-pub enum Replaced {
-    Upgrade { owner: Owner, from: Path, to: Path },
-    None,
+pub struct Replaced {
+    pub owner: Option<Owner>,
+    pub from: Path,
+    pub to: Path,
 }
 
 // How a circuit came: relayed if it is claimed.
-fn circuit_path(claim: Claim) -> FoundPath
+#[tactic(auto, unfolding(crate::specs::Judged::circuit_path))]
+fn circuit_path(claim: Option<Claim>) -> Option<Attribution>
     ensures { result ≡ circuit_path claim }
 {
     match claim {
-        Claim::Circuit { relay, owner } => FoundPath::At(Attribution {
+        Some(Claim::Circuit { relay, owner }) => Some(Attribution {
             path: Path::Relayed { relay },
             owner,
         }),
-        Claim::Direct(_) => FoundPath::None,
-        Claim::None => FoundPath::None,
+        _ => None,
     }
 }
 
 // A window of the peer says: punched, and the inbound side is the owner.
+#[tactic(auto, unfolding(crate::specs::Judged::by_window))]
 fn by_window(lasting: bool, other: Attribution) -> Attribution
     ensures { result ≡ by_window lasting other }
 {
     if lasting {
         return Attribution {
             path: Path::Punched,
-            owner: Owner::Inbound,
+            owner: Some(Owner::Inbound),
         };
     }
     other
 }
 
 // Direct for the attempt that claims it.
-fn by_claim(claim: Claim, other: Attribution) -> Attribution
+#[tactic(auto, unfolding(crate::specs::Judged::by_claim))]
+fn by_claim(claim: Option<Claim>, other: Attribution) -> Attribution
     ensures { result ≡ by_claim claim other }
 {
     match claim {
-        Claim::Direct(id) => Attribution {
+        Some(Claim::Direct(id)) => Attribution {
             path: Path::Direct,
-            owner: Owner::Attempt(id),
+            owner: Some(Owner::Attempt(id)),
         },
-        Claim::Circuit { relay: _, owner: _ } => other,
-        Claim::None => other,
+        _ => other,
     }
 }
 
 // A punch dial says: punched, and its attempt is the owner.
-fn by_dial(dial: FoundDial, other: Attribution) -> Attribution
+#[tactic(auto, unfolding(crate::specs::Judged::by_dial))]
+fn by_dial(dial: Option<Dial>, other: Attribution) -> Attribution
     ensures { result ≡ by_dial dial other }
 {
-    let FoundDial::At(started) = dial else {
-        return other;
-    };
-    let purpose = started.purpose;
-    match purpose {
-        DialPurpose::Punch(id) => Attribution {
+    match dial {
+        Some(
+            Dial {
+                purpose: DialPurpose::Punch(id),
+                ..
+            },
+        ) => Attribution {
             path: Path::Punched,
-            owner: Owner::Attempt(id),
+            owner: Some(Owner::Attempt(id)),
         },
-        DialPurpose::Relay(_, _) => other,
-        DialPurpose::Probe(_) => other,
-        DialPurpose::Reserve(_) => other,
+        _ => other,
     }
 }
 
 // How a direct connection came: the punch dial counts before the claim, and the claim before the window.
-fn direct_path(dial: FoundDial, claim: Claim, lasting: bool) -> Attribution
+#[tactic(auto, unfolding(crate::specs::Judged::direct_path))]
+fn direct_path(dial: Option<Dial>, claim: Option<Claim>, lasting: bool) -> Attribution
     ensures { result ≡ direct_path dial claim lasting }
 {
     let unowned = Attribution {
         path: Path::Direct,
-        owner: Owner::None,
+        owner: None,
     };
-    let unclaimed = by_window(lasting, unowned);
-    let undialed = by_claim(claim, unclaimed);
-    by_dial(dial, undialed)
+    by_dial(dial, by_claim(claim, by_window(lasting, unowned)))
 }
 
 // How a connection came, by its dial, the claim and whether the peer's window lasts; a circuit that no one claims has no path.
-pub fn judge(circuit: bool, dial: FoundDial, claim: Claim, lasting: bool) -> FoundPath
+#[tactic(auto, unfolding(crate::specs::Judged::judged))]
+pub fn judge(
+    circuit: bool,
+    dial: Option<Dial>,
+    claim: Option<Claim>,
+    lasting: bool,
+) -> Option<Attribution>
     ensures { result ≡ judged circuit dial claim lasting }
 {
     if circuit {
         return circuit_path(claim);
     }
-    FoundPath::At(direct_path(dial, claim, lasting))
+    Some(direct_path(dial, claim, lasting))
 }
 
+#[tactic(auto, unfolding(crate::specs::Judged::is_relayed))]
 fn is_relayed(path: Path) -> bool
     ensures { result ≡ is_relayed path }
 {
-    match path {
-        Path::Relayed { relay: _ } => true,
-        Path::Punched => false,
-        Path::Direct => false,
-    }
+    matches!(path, Path::Relayed { .. })
 }
 
-fn is_owned(owner: Owner) -> bool
-    ensures { result ≡ is_owned owner }
-{
-    match owner {
-        Owner::Attempt(_) => true,
-        Owner::Inbound => true,
-        Owner::None => false,
-    }
-}
-
-pub fn is_punched(found: FoundPath) -> bool
+#[tactic(auto, unfolding(crate::specs::Judged::punched_at))]
+pub fn is_punched(found: Option<Attribution>) -> bool
     ensures { result ≡ punched_at found }
 {
-    let FoundPath::At(attribution) = found else {
-        return false;
-    };
-    let path = attribution.path;
-    match path {
-        Path::Relayed { relay: _ } => false,
-        Path::Punched => true,
-        Path::Direct => false,
+    match found {
+        Some(a) => matches!(a.path, Path::Punched),
+        None => false,
     }
 }
 
 // The upgrade, if any, where the new path takes the place of the old: an owned relayed path gives way to one that is not.
-pub fn upgrade(old: Attribution, new: FoundPath) -> Replaced
+#[tactic(auto, unfolding(crate::specs::Judged::upgrade_of, crate::specs::Judged::is_owned))]
+pub fn upgrade(old: Attribution, new: Option<Attribution>) -> Option<Replaced>
     ensures { result ≡ upgrade_of old new }
 {
-    let FoundPath::At(attribution) = new else {
-        return Replaced::None;
-    };
-    let owner = old.owner;
-    let from = old.path;
-    let to = attribution.path;
-    if is_relayed(from) {
-        if is_owned(owner) {
-            if is_relayed(to) {
-                return Replaced::None;
-            }
-            return Replaced::Upgrade { owner, from, to };
-        }
+    let new = new?;
+    if old.owner.is_some() && is_relayed(old.path) && !is_relayed(new.path) {
+        return Some(Replaced {
+            owner: old.owner,
+            from: old.path,
+            to: new.path,
+        });
     }
-    Replaced::None
+    None
 }

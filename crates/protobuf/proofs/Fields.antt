@@ -7,9 +7,8 @@ use Prim.Native.Nat.{ℕ, ◌+◌, ◌-◌, ◌/◌, ◌%◌, ◌<◌, ◌≤◌
 use native.Mathlib.Omega.{arith}
 use lib.Dec.{leb}
 use lib.ListN.{length, take, drop}
+use Rattle.std.specs.Prelude.{Option, Some, ℕ}
 use Rattle.wire.specs.Varint.{varint_of}
-use Rattle.wire.specs.declared.Varint.{Varint}
-use Rattle.wire.specs.declared.Varint.TheVariants.{Value}
 use borrow.Author.Tests.{le-ltb, le-leb, lt-leb, eq-eqb, ne_eqb}
 use Rattle.wire.proofs.Spans.{varint_size, rest_of}
 use Rattle.protobuf.specs.Fields.{max_field, bytes_field, payload_of, field_of}
@@ -17,11 +16,11 @@ use Rattle.protobuf.specs.declared.Field.{Field}
 use Rattle.protobuf.specs.declared.Field.TheVariants as f
 
 -- what a varint that was read says of its size
-pub size_of : (s : List ℕ) {v n : ℕ} {r : Varint} → r ≡ varint_of s → r ≡ Value v n → (0 < n) × (n ≤ length s) × (n ≤ 10)
+pub size_of : (s : List ℕ) {v n : ℕ} {r : Option (ℕ × ℕ)} → r ≡ varint_of s → r ≡ Some (v, n) → (0 < n) × (n ≤ length s) × (n ≤ 10)
 size_of s {v} {n} e d = varint_size s v n (sym d ∙ e)
 
 -- a field of bytes, whose length r was read
-module _ (n t : ℕ) (s : List ℕ) {v k : ℕ} {r : Varint} (e : r ≡ varint_of s) (d : r ≡ Value v k) where
+module _ (n t : ℕ) (s : List ℕ) {v k : ℕ} {r : Option (ℕ × ℕ)} (e : r ≡ varint_of s) (d : r ≡ Some (v, k)) where
   pub bytes_cut : length s - k < v → f.Malformed ≡ bytes_field n t s (varint_of s)
   bytes_cut h =
       let q = size_of s e d in
@@ -39,7 +38,7 @@ module _ (n t : ℕ) (s : List ℕ) {v k : ℕ} {r : Varint} (e : r ≡ varint_o
     bytes_other g = rw (sym e ∙ d, fits, ne_eqb n 2 g)
 
 -- a field whose tag r was read
-pub field_payload : (s : List ℕ) {v t : ℕ} {r : Varint} {x : Field} → r ≡ varint_of s → r ≡ Value v t → (v / 8 ≡ 0 → ⊥) → v / 8 ≤ max_field
+pub field_payload : (s : List ℕ) {v t : ℕ} {r : Option (ℕ × ℕ)} {x : Field} → r ≡ varint_of s → r ≡ Some (v, t) → (v / 8 ≡ 0 → ⊥) → v / 8 ≤ max_field
     → x ≡ payload_of (v / 8) (v % 8) t (take (length s - t) (drop t s)) → x ≡ field_of s
 unfolding field_of
 field_payload s {v} {t} e d p q h = rw (sym e ∙ d, ne_eqb (v / 8) 0 p, le-ltb max_field (v / 8) q, ← rest_of s t) h

@@ -1,9 +1,7 @@
 -- The fields of a HolePunch message (RULES.md, section 2).
-use Rattle.std.specs.Prelude.{ℕ, ◌+◌, ◌/◌, ◌%◌, List, length, drop, ltb, leb, eqb}
+use Rattle.std.specs.Prelude.{ℕ, ◌+◌, ◌/◌, ◌%◌, List, length, drop, ltb, leb, eqb, None, Option, Some}
 use Rattle.prelude.specs.Choice.{pick}
 use Rattle.wire.specs.Varint.{varint_of}
-use Rattle.wire.specs.declared.Varint.{Varint}
-use Rattle.wire.specs.declared.Varint.TheVariants.{Value, Malformed}
 use Rattle.protobuf.specs.declared.Field.{Field}
 use Rattle.protobuf.specs.declared.Field.TheVariants as f
 
@@ -12,18 +10,18 @@ abbrev pub max_field : ℕ
 max_field = 536_870_911
 
 -- field n, behind a tag of t bytes. Wire type 0: a varint, the type where n is 1
-abbrev pub varint_field : ℕ → ℕ → Varint → Field
-varint_field n t (Value v k) = pick (eqb n 1) (f.Typed v (t + k)) (f.Other (t + k))
-varint_field n t Malformed = f.Malformed
+abbrev pub varint_field : ℕ → ℕ → Option (ℕ × ℕ) → Field
+varint_field n t (Some (v, k)) = pick (eqb n 1) (f.Typed v (t + k)) (f.Other (t + k))
+varint_field n t None = f.Malformed
 
 -- wire types 1 and 5: k bytes
 abbrev pub fixed_field : ℕ → ℕ → List ℕ → Field
 fixed_field k t s = pick (leb k (length s)) (f.Other (t + k)) f.Malformed
 
 -- wire type 2: a length and so many bytes, an address where n is 2
-abbrev pub bytes_field : ℕ → ℕ → List ℕ → Varint → Field
-bytes_field n t s (Value v k) = pick (leb (k + v) (length s)) (pick (eqb n 2) (f.Address (t + k) v) (f.Other (t + k + v))) f.Malformed
-bytes_field n t s Malformed = f.Malformed
+abbrev pub bytes_field : ℕ → ℕ → List ℕ → Option (ℕ × ℕ) → Field
+bytes_field n t s (Some (v, k)) = pick (leb (k + v) (length s)) (pick (eqb n 2) (f.Address (t + k) v) (f.Other (t + k + v))) f.Malformed
+bytes_field n t s None = f.Malformed
 
 -- field n of wire type w; types 3, 4, 6 and 7 are malformed
 abbrev pub payload_of : ℕ → ℕ → ℕ → List ℕ → Field
@@ -33,9 +31,9 @@ payload_of n w t s =
     (pick (eqb w 2) (bytes_field n t s (varint_of s)) (pick (eqb w 5) (fixed_field 4 t s) f.Malformed)))
 
 -- a tag is a field number, 1 to max_field, times 8 and a wire type
-abbrev pub tagged : List ℕ → Varint → Field
-tagged s (Value v t) = pick (eqb (v / 8) 0) f.Malformed (pick (ltb max_field (v / 8)) f.Malformed (payload_of (v / 8) (v % 8) t (drop t s)))
-tagged s Malformed = f.Malformed
+abbrev pub tagged : List ℕ → Option (ℕ × ℕ) → Field
+tagged s (Some (v, t)) = pick (eqb (v / 8) 0) f.Malformed (pick (ltb max_field (v / 8)) f.Malformed (payload_of (v / 8) (v % 8) t (drop t s)))
+tagged s None = f.Malformed
 
 -- the field that stands first, with its size; of an address, where its bytes stand
 unfoldable pub field_of : List ℕ → Field

@@ -5,8 +5,6 @@ ghost use Rattle.std.specs.Prelude.{◌≡◌, ◌≤◌};
 ghost use Rattle.wire.specs.Varint.{varint_of};
 ghost use Rattle.protobuf.specs.Fields.{varint_field, fixed_field, bytes_field, payload_of, field_of};
 
-use wire::Varint;
-
 // The largest field number.
 const MAX_FIELD: u64 = 536_870_911;
 
@@ -25,8 +23,8 @@ fn varint_field(n: u64, t: usize, s: &[u8]) -> Field
     ensures { result ≡ varint_field n t (varint_of s.now) }
 {
     match wire::first_varint(s) {
-        Varint::Malformed => Field::Malformed,
-        Varint::Value { value, next } => {
+        None => Field::Malformed,
+        Some((value, next)) => {
             if n == 1 {
                 Field::Typed {
                     value: value,
@@ -57,8 +55,8 @@ fn bytes_field(n: u64, t: usize, s: &[u8]) -> Field
     ensures { result ≡ bytes_field n t s.now (varint_of s.now) }
 {
     match wire::first_varint(s) {
-        Varint::Malformed => Field::Malformed,
-        Varint::Value { value, next } => {
+        None => Field::Malformed,
+        Some((value, next)) => {
             let left = s.len() - next;
             if (left as u64) < value {
                 return Field::Malformed;
@@ -103,8 +101,8 @@ pub fn first_field(s: &[u8]) -> Field
     ensures { result ≡ field_of s.now }
 {
     match wire::first_varint(s) {
-        Varint::Malformed => Field::Malformed,
-        Varint::Value { value, next } => {
+        None => Field::Malformed,
+        Some((value, next)) => {
             let n = value / 8;
             if n == 0 {
                 return Field::Malformed;

@@ -7,76 +7,58 @@ ghost use Rattle.rounds.specs.Rounds.{no_round, open_stream, is_live, open_round
 use budget::UpgradeBudget;
 use circuit::decision::{Decision, Fate, Said};
 use circuit::state::Core;
-use circuit::{decision, state};
 use ids::ConnectionId;
-use vocabulary::{Effect, Host, Live, Offer};
+use vocabulary::{Effect, Host};
 
 // No round is to be had: direct connections from the source are no longer this side's punches.
+#[tactic(auto, unfolding(crate::specs::Rounds::no_round))]
 fn no_round(c: Core, said: Said) -> Decision
     ensures { result ≡ no_round c said }
 {
-    decision::decided(state::finish(c), Fate::Removed, said, Effect::Nothing)
+    Decision::decided(c.finish(), Fate::Removed, said, None)
 }
 
 // The round begins on the offered stream.
 fn open_stream(c: Core, budget: UpgradeBudget, host: Host, said: Said) -> Decision
     ensures { result ≡ open_stream c budget host.at said host.offer }
 {
-    let offer = host.offer;
-    match offer {
-        Offer::Nothing => {
-            return no_round(c, said);
-        }
-        Offer::Stream(conn, stream) => {
-            let begun = budget.begin_round(host.at);
-            let opened = Effect::Open {
-                conn: conn,
-                stream: stream,
-            };
-            return decision::decided(
-                state::exchanging(c, begun, conn, stream),
-                Fate::Kept,
-                said,
-                opened,
-            );
-        }
+    match host.offer {
+        Some((conn, stream)) => Decision::decided(
+            c.exchanging(budget.begin_round(host.at), conn, stream),
+            Fate::Kept,
+            said,
+            Some(Effect::Open { conn, stream }),
+        ),
+        None => no_round(c, said),
     }
 }
 
 // Whether the source's connection is still the circuit.
-fn is_live(circuit: ConnectionId, live: Live) -> bool
+#[tactic(auto, unfolding(crate::specs::Rounds::is_live))]
+fn is_live(circuit: ConnectionId, live: Option<ConnectionId>) -> bool
     ensures { result ≡ is_live circuit live }
 {
     match live {
-        Live::Nothing => {
-            return false;
-        }
-        Live::On(conn) => {
-            return conn.0 == circuit.0;
-        }
+        Some(conn) => conn == circuit,
+        None => false,
     }
 }
 
 // Opens the next round, or ends the upgrade.
+#[tactic(auto, unfolding(crate::specs::Rounds::open_round))]
 pub fn open_round(c: Core, budget: UpgradeBudget, host: Host, said: Said) -> Decision
     ensures { result ≡ open_round c budget host said }
 {
-    let circuit = c.circuit;
-    let live = host.live;
-    if is_live(circuit, live) {
-        if budget.may_begin(host.at) {
-            return open_stream(c, budget, host, said);
-        }
-        return no_round(c, said);
+    if is_live(c.circuit, host.live) && budget.may_begin(host.at) {
+        return open_stream(c, budget, host, said);
     }
     no_round(c, said)
 }
 
 // The round's exchange failed: the next round starts at once.
+#[tactic(auto, unfolding(crate::specs::Rounds::fail_round))]
 pub fn fail_round(c: Core, host: Host, said: Said) -> Decision
     ensures { result ≡ fail_round c host said }
 {
-    let budget = c.budget;
-    let ended = budget.end_exchange();
-    open_round(c, ended, host, said)
+    open_round(c, c.budget.end_exchange(), host, said)
 }

@@ -7,11 +7,10 @@ use native.Mathlib.Omega.{arith}
 use borrow.Author.Tests.{ltb-true, ltb-false, lt-ltb, le-ltb, eqb-true, eq-eqb, ne_eqb, leb-true, leb-false, le-leb}
 use lib.ListN.{length, length-append}
 use lib.Dec.{eqb, ltb}
+use Rattle.std.specs.Prelude.{None, Option, Some}
 use Rattle.prelude.specs.Lists.{such}
 use Rattle.prelude.specs.Choice.{pick, no}
 use Rattle.kinds.specs.declared.Row.{Row}
-use Rattle.rows.specs.declared.Found.{Found}
-use Rattle.rows.specs.declared.Found.TheVariants.{At, Nothing}
 use Rattle.rows.specs.declared.Keep.TheVariants.{Below as KeepBelow, Above as KeepAbove, Other as KeepOther}
 use Rattle.kinds.specs.declared.Entry.{Entry}
 use Rattle.kinds.specs.Kinds.{entry_of, row_of}
@@ -33,59 +32,59 @@ module _ (k : ℕ) (p : Row → Bool) where
   find_kept h (r ∷ rs) = go (eqb r.key k) refl (p r) refl (find_kept h rs)
     where
       go : (t : Bool) → eqb r.key k ≡ t → (q : Bool) → p r ≡ q → find_in k (such p rs) ≡ find_in k rs
-          → find_in k (pick q (r ∷ such p rs) (such p rs)) ≡ pick t (At (entry_of r)) (find_in k rs)
+          → find_in k (pick q (r ∷ such p rs) (such p rs)) ≡ pick t (Some (entry_of r)) (find_in k rs)
       go true e true f ih = simp e
       go true e false f ih = both_ways (sym (h r (eqb-true r.key k e)) ∙ f)
       go false e true f ih = simp (e, ih)
       go false e false f ih = ih
 
-  pub find_dropped : ((r : Row) → r.key ≡ k → p r ≡ false) → (rs : List Row) → find_in k (such p rs) ≡ Nothing
+  pub find_dropped : ((r : Row) → r.key ≡ k → p r ≡ false) → (rs : List Row) → find_in k (such p rs) ≡ None
   unfolding find_in such
   find_dropped h [] = refl
   find_dropped h (r ∷ rs) = go (eqb r.key k) refl (p r) refl (find_dropped h rs)
     where
-      go : (t : Bool) → eqb r.key k ≡ t → (q : Bool) → p r ≡ q → find_in k (such p rs) ≡ Nothing → find_in k (pick q (r ∷ such p rs) (such p rs)) ≡ Nothing
+      go : (t : Bool) → eqb r.key k ≡ t → (q : Bool) → p r ≡ q → find_in k (such p rs) ≡ None → find_in k (pick q (r ∷ such p rs) (such p rs)) ≡ None
       go true e true f ih = both_ways (sym f ∙ h r (eqb-true r.key k e))
       go true e false f ih = ih
       go false e true f ih = simp (e, ih)
       go false e false f ih = ih
 
-pub find_without : (k : ℕ) (rs : List Row) → find_in k (without k rs) ≡ Nothing
+pub find_without : (k : ℕ) (rs : List Row) → find_in k (without k rs) ≡ None
 find_without k rs = find_dropped k (keeps_row (KeepOther k)) (λ r e. simp (eq-eqb r.key k e)) rs
 
 pub find_without_other : (k j : ℕ) → (k ≡ j → ⊥) → (rs : List Row) → find_in k (without j rs) ≡ find_in k rs
 find_without_other k j n rs = find_kept k (keeps_row (KeepOther j)) (λ r e. simp (ne_eqb r.key j (λ q. n (sym e ∙ q)))) rs
 
 -- ---- found after a row is inserted
-abbrev or_else : Found → Found → Found
-or_else (At e) f = At e
-or_else Nothing f = f
+abbrev or_else : Option Entry → Option Entry → Option Entry
+or_else (Some e) f = Some e
+or_else None f = f
 
 find_append : (k : ℕ) (a b : List Row) → find_in k (a ++ b) ≡ or_else (find_in k a) (find_in k b)
 unfolding find_in
 find_append k [] b = refl
 find_append k (r ∷ a) b = go (eqb r.key k) (find_append k a b)
   where
-    go : (t : Bool) → find_in k (a ++ b) ≡ or_else (find_in k a) (find_in k b) → pick t (At (entry_of r)) (find_in k (a ++ b)) ≡ or_else (pick t (At (entry_of r)) (find_in k a)) (find_in k b)
+    go : (t : Bool) → find_in k (a ++ b) ≡ or_else (find_in k a) (find_in k b) → pick t (Some (entry_of r)) (find_in k (a ++ b)) ≡ or_else (pick t (Some (entry_of r)) (find_in k a)) (find_in k b)
     go true ih = refl
     go false ih = ih
 
-or_nothing : (f : Found) → or_else f Nothing ≡ f
-or_nothing (At e) = refl
-or_nothing Nothing = refl
+or_nothing : (f : Option Entry) → or_else f None ≡ f
+or_nothing (Some e) = refl
+or_nothing None = refl
 
 not_below_itself : (k : ℕ) (r : Row) → r.key ≡ k → ltb r.key k ≡ false
 not_below_itself k r e = le-ltb r.key k (omega arith)
 
-pub find_inserted : (r : Row) (rs : List Row) → find_in r.key (inserted r rs) ≡ At (entry_of r)
+pub find_inserted : (r : Row) (rs : List Row) → find_in r.key (inserted r rs) ≡ Some (entry_of r)
 unfolding find_in
 find_inserted r rs =
     find_append r.key (kept (KeepBelow r.key) rs) (r ∷ kept (KeepAbove r.key) rs)
     ∙ simp (find_dropped r.key (keeps_row (KeepBelow r.key)) (not_below_itself r.key) rs, eq-eqb r.key r.key refl)
 
 -- an entry that is inserted is found
-pub find_entered : (k : ℕ) (e : Entry) (rs : List Row) → find_in k (inserted (row_of k e) rs) ≡ At e
-find_entered k e rs = find_inserted (row_of k e) rs ∙ ap At (entry_back k e)
+pub find_entered : (k : ℕ) (e : Entry) (rs : List Row) → find_in k (inserted (row_of k e) rs) ≡ Some e
+find_entered k e rs = find_inserted (row_of k e) rs ∙ ap Some (entry_back k e)
 
 module _ (k : ℕ) (r : Row) (n : k ≡ r.key → ⊥) (rs : List Row) where
   after_row : find_in k (r ∷ kept (KeepAbove r.key) rs) ≡ find_in k (kept (KeepAbove r.key) rs)
@@ -182,14 +181,14 @@ ascending_inserted r (ascending-more {r = x} {rs} b a) = go (ltb x.key r.key) re
         (ascending-more (above_are r.key (x ∷ rs)) (ascending_such (keeps_row (KeepAbove r.key)) (ascending-more b a)))
 
 -- ---- the 65th row
-pub crowded_is : (k : ℕ) (rs : List Row) → length rs ≤ 64 → crowded k rs ≡ true → (length rs ≡ 64) × (find_in k rs ≡ Nothing)
+pub crowded_is : (k : ℕ) (rs : List Row) → length rs ≤ 64 → crowded k rs ≡ true → (length rs ≡ 64) × (find_in k rs ≡ None)
 crowded_is k rs h e =
     let n = leb-true 64 (length (without k rs)) e in
     (omega (arith, such_≤ (keeps_row (KeepOther k)) rs), go (find_in k rs) refl)
   where
-    go : (f : Found) → find_in k rs ≡ f → f ≡ Nothing
-    go (At x) q = absurd (omega (arith, one_removed k rs q, leb-true 64 (length (without k rs)) e))
-    go Nothing q = refl
+    go : (f : Option Entry) → find_in k rs ≡ f → f ≡ None
+    go (Some x) q = absurd (omega (arith, one_removed k rs q, leb-true 64 (length (without k rs)) e))
+    go None q = refl
 
-pub is_crowded : (k : ℕ) (rs : List Row) → length rs ≡ 64 → find_in k rs ≡ Nothing → crowded k rs ≡ true
+pub is_crowded : (k : ℕ) (rs : List Row) → length rs ≡ 64 → find_in k rs ≡ None → crowded k rs ≡ true
 is_crowded k rs h e = rw (none_removed k rs e) (le-leb 64 (length rs) (omega arith))

@@ -9,11 +9,11 @@ use lib.ListN.{length, get_or, take, drop, set, replicate, length-take, length-m
 use lib.Seq.{drop-cons, get_or-take, take-suc, take-nil, take_all, set_at, length-take-le}
 use lib.Dec.{eqb, ltb}
 use borrow.Author.Tests.{ltb-true, ltb-false, lt-ltb, le-ltb, eqb-true, eqb-false}
+use Rattle.std.specs.Prelude.{None, Some}
 use Rattle.prelude.specs.Lists.{padded, such}
 use Rattle.prelude.specs.Choice.{pick, no}
 use Rattle.kinds.specs.declared.Entry.{Entry}
 use Rattle.kinds.specs.declared.Row.{Row}
-use Rattle.rows.specs.declared.Found.TheVariants.{At, Nothing}
 use Rattle.rows.specs.declared.Keep.TheVariants.{Other, Below, Above}
 use Rattle.kinds.specs.Kinds.{entry_of}
 use Rattle.rows.specs.Rows.{find_in, keeps_row, kept, marked, marks_by, not_below}
@@ -42,7 +42,7 @@ module _ {A : Type 0} (xs : List A) (k i : ℕ) (d : A) (h : i < length (take k 
       simp (add-one, take-suc (take k xs) i d h, get_or-take k xs i d b)
 
 module _ (key : ℕ) (xs : List Row) (k i : ℕ) (d : Row) (h : i < length (take k xs)) where
-  pub find_here : eqb (get_or xs i d).key key ≡ true → find_in key (drop i (take k xs)) ≡ At (entry_of (get_or xs i d))
+  pub find_here : eqb (get_or xs i d).key key ≡ true → find_in key (drop i (take k xs)) ≡ Some (entry_of (get_or xs i d))
   unfolding find_in
   find_here e = simp (rest xs k i d h, e)
 
@@ -50,7 +50,7 @@ module _ (key : ℕ) (xs : List Row) (k i : ℕ) (d : Row) (h : i < length (take
   unfolding find_in
   find_on e = simp (rest xs k i d h, e)
 
-pub find_end : (key : ℕ) (xs : List Row) (i : ℕ) → length xs ≤ i → find_in key (drop i xs) ≡ Nothing
+pub find_end : (key : ℕ) (xs : List Row) (i : ℕ) → length xs ≤ i → find_in key (drop i xs) ≡ None
 unfolding find_in
 find_end key xs i h = simp (drop_of_length-le xs h)
 
@@ -83,21 +83,21 @@ module _ {A : Type 0} (p : A → Bool) where
     such_skip e = simp (one_more xs k i d h, such_append, e, append-nil)
 
 -- ---- a row that is found, and one that is removed
-pub none_removed : (key : ℕ) (rs : List Row) → find_in key rs ≡ Nothing → kept (Other key) rs ≡ rs
+pub none_removed : (key : ℕ) (rs : List Row) → find_in key rs ≡ None → kept (Other key) rs ≡ rs
 unfolding find_in such
 none_removed key [] e = refl
 none_removed key (r ∷ rs) e = go (eqb r.key key) (none_removed key rs) e
   where
-    go : (t : Bool) → (find_in key rs ≡ Nothing → kept (Other key) rs ≡ rs) → pick t (At (entry_of r)) (find_in key rs) ≡ Nothing → pick (no t) (r ∷ kept (Other key) rs) (kept (Other key) rs) ≡ r ∷ rs
+    go : (t : Bool) → (find_in key rs ≡ None → kept (Other key) rs ≡ rs) → pick t (Some (entry_of r)) (find_in key rs) ≡ None → pick (no t) (r ∷ kept (Other key) rs) (kept (Other key) rs) ≡ r ∷ rs
     go true f e = let z : ◌≡◌ {A = ℕ} 0 1 = cc in absurd (omega arith)
     go false f e = ap (λ (l : List Row). r ∷ l) (f e)
 
-pub one_removed : (key : ℕ) (rs : List Row) {x : Entry} → find_in key rs ≡ At x → length (kept (Other key) rs) < length rs
+pub one_removed : (key : ℕ) (rs : List Row) {x : Entry} → find_in key rs ≡ Some x → length (kept (Other key) rs) < length rs
 unfolding find_in such
 one_removed key [] e = let z : ◌≡◌ {A = ℕ} 0 1 = cc in absurd (omega arith)
-one_removed key (r ∷ rs) {x} e = go (eqb r.key key) (λ (q : find_in key rs ≡ At x). one_removed key rs q) e
+one_removed key (r ∷ rs) {x} e = go (eqb r.key key) (λ (q : find_in key rs ≡ Some x). one_removed key rs q) e
   where
-    go : (t : Bool) → (find_in key rs ≡ At x → length (kept (Other key) rs) < length rs) → pick t (At (entry_of r)) (find_in key rs) ≡ At x → length (pick (no t) (r ∷ kept (Other key) rs) (kept (Other key) rs)) < suc (length rs)
+    go : (t : Bool) → (find_in key rs ≡ Some x → length (kept (Other key) rs) < length rs) → pick t (Some (entry_of r)) (find_in key rs) ≡ Some x → length (pick (no t) (r ∷ kept (Other key) rs) (kept (Other key) rs)) < suc (length rs)
     go true f e = omega (arith, such_≤ (keeps_row (Other key)) rs)
     go false f e = omega (arith, f e)
 

@@ -1,13 +1,13 @@
--- Places after a row is written in front of the others, brought forward, or cleared. Assumes nothing.
--- ---- the row at k is brought to i: what lies between moves up, from the top
+-- Places after a row is written in front of the others, or brought forward. Assumes nothing.
+-- ---- the row at k is brought to i: what lies between moves up
 use Prim.Native.Nat.{ℕ, suc, ◌≤◌, ◌<◌, ◌-◌, ◌+◌}
 use mathlib.Core.Path.{◌≡◌, refl, ap, sym, ◌∙◌}
 use mathlib.Core.Bool.{true, false}
 use mathlib.Core.List.{List, [], ◌∷◌, ◌++◌, append_assoc, append-nil}
 use native.Mathlib.Omega.{arith}
 use native.Mathlib.Numerals.{add-one}
-use lib.ListN.{length, get_or, take, drop, set, replicate, length-append, length-take, length-drop, length-replicate, drop_of_length-le, take-append-drop, replicate-append-replicate, get_or-append}
-use lib.Seq.{drop-cons, take-suc, take_at, drop_at, get_or_at, set_at, get_or-take, get_or-drop, get_or-append-add, drop-append-add, length-take-le, split_at}
+use lib.ListN.{length, get_or, take, drop, set, length-append, length-take, length-drop, drop_of_length-le}
+use lib.Seq.{drop-cons, take-suc, take_at, drop_at, get_or_at, set_at, get_or-drop, get_or-append-add, drop-append-add, length-take-le, split_at}
 use lib.Dec.{ltb}
 use Rattle.prelude.specs.Lists.{such}
 use Rattle.kinds.specs.declared.Row.{Row}
@@ -20,12 +20,6 @@ unfoldable pub opened : List Row → ℕ → ℕ → List Row
 opened ps j k = take (suc j) ps ++ (drop j (take k ps) ++ drop (suc k) ps)
 
 module _ (ps : List Row) (k : ℕ) (h : k < length ps) where
-  pub open_start : opened ps k k ≡ ps
-  unfolding opened
-  open_start =
-      let z : length (take k ps) ≤ k = simp length-take (omega arith) in
-      rw (drop_of_length-le (take k ps) z) (take-append-drop (suc k) ps)
-
   pub open_length : (j : ℕ) → j ≤ k → length (opened ps j k) ≡ length ps
   unfolding opened
   open_length j l = simp (length-append, length-take, length-drop) (omega arith)
@@ -39,18 +33,6 @@ module _ (ps : List Row) (k : ℕ) (h : k < length ps) where
   pub open_end : (i : ℕ) → i ≤ k → set (opened ps i k) i (get_or ps k no_row) ≡ brought ps i k
   unfolding brought
   open_end i l = open_set i l (get_or ps k no_row)
-
-  pub open_read : (g : ℕ) → g < k → get_or (opened ps (suc g) k) g no_row ≡ get_or ps g no_row
-  unfolding opened
-  open_read g l =
-      let n : g < length (take (suc (suc g)) ps) = simp length-take (omega arith) in
-      get_or-append (take (suc (suc g)) ps) (drop (suc g) (take k ps) ++ drop (suc k) ps) no_row g n ∙ get_or-take (suc (suc g)) ps g no_row (omega arith)
-
-  pub open_step : (g : ℕ) → g < k → set (opened ps (suc g) k) (suc g) (get_or ps g no_row) ≡ opened ps g k
-  unfolding opened
-  open_step g l =
-      let m : g < length (take k ps) = simp length-take (omega arith) in
-      open_set (suc g) (omega arith) (get_or ps g no_row) ∙ rw (drop-cons (take k ps) g no_row m, get_or-take k ps g no_row l) refl
 
   pub brought_length : (i : ℕ) → i ≤ k → length (brought ps i k) ≡ length ps
   unfolding brought
@@ -90,31 +72,6 @@ module _ (xs ps : List Row) (h : length xs ≤ length ps) where
   -- a row that stands there already
   pub fill_same : (i : ℕ) → i ≡ length xs → i < length ps → filled xs ps ≡ filled (xs ++ (get_or ps i no_row ∷ [])) ps
   fill_same i e l = rw (more_drop (get_or ps i no_row), e, drop-cons ps (length xs) no_row (omega arith), append_assoc xs (get_or ps (length xs) no_row ∷ []) (drop (suc (length xs)) ps)) refl
-
--- ---- zeros from m on, up to i
-unfoldable pub zeroed : List Row → ℕ → ℕ → List Row
-zeroed ps m i = take m ps ++ (replicate (i - m) no_row ++ drop i ps)
-
-module _ (ps : List Row) (m : ℕ) where
-  pub zero_start : zeroed ps m m ≡ ps
-  unfolding zeroed
-  zero_start = let q : m - m ≡ 0 = omega arith in rw q (take-append-drop m ps)
-
-  pub zero_length : (i : ℕ) → m ≤ i → i ≤ length ps → length (zeroed ps m i) ≡ length ps
-  unfolding zeroed
-  zero_length i l h = simp (length-append, length-take, length-drop, length-replicate) (omega arith)
-
-  pub zero_step : (i : ℕ) → m ≤ i → i < length ps → set (zeroed ps m i) i no_row ≡ zeroed ps m (i + 1)
-  unfolding zeroed
-  zero_step i l h =
-      let n : length (take m ps ++ replicate (i - m) no_row) ≡ i = simp (length-append, length-take, length-replicate) (omega arith) in
-      let q : i + 1 - m ≡ i - m + 1 = omega arith in
-      rw (q, sym (replicate-append-replicate (i - m) 1 no_row), drop-cons ps i no_row h, sym (append_assoc (take m ps) (replicate (i - m) no_row) (get_or ps i no_row ∷ drop (suc i) ps)))
-      (set_at (take m ps ++ replicate (i - m) no_row) (get_or ps i no_row) (drop (suc i) ps) no_row i n ∙ simp (append_assoc, add-one))
-
-  pub zero_end : (i n : ℕ) → i ≡ m + (n - m) → zeroed ps m i ≡ take m ps ++ (replicate (n - m) no_row ++ drop (m + (n - m)) ps)
-  unfolding zeroed
-  zero_end i n e = let q : i - m ≡ n - m = omega arith in rw (q, e) refl
 
 -- ---- rows below the key first
 regroup : (xs ys zs : List Row) (r : Row) → ((xs ++ (r ∷ [])) ++ (ys ++ [])) ++ zs ≡ xs ++ (r ∷ (ys ++ zs))

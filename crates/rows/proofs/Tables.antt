@@ -1,6 +1,6 @@
 -- Words that hold these places in a table, and are otherwise as they were. Assumes nothing.
 -- as many of the values as are in use
-use Prim.Native.Nat.{ℕ, zero, suc, ◌≤◌, ◌-◌, ◌+◌, min}
+use Prim.Native.Nat.{ℕ, zero, suc, ◌≤◌, ◌<◌, ◌-◌, ◌+◌, ◌*◌, min}
 use mathlib.Core.Path.{◌≡◌, refl, ap, sym, ◌∙◌}
 use mathlib.Core.Bool.{Bool, true, false}
 use mathlib.Core.List.{List, [], ◌∷◌, ◌++◌, append_assoc, append-nil}
@@ -9,11 +9,14 @@ use borrow.Author.Tests.{eqb-true, eq-eqb, ltb-true, ltb-false}
 use lib.ListN.{length, get_or, take, drop, set, replicate, length-append, length-take, length-drop, length-set, length-replicate, take-append-drop}
 use lib.Seq.{take-nil, take_all, take_at, take-append_seam, drop-append-add, drop-drop, set_at}
 use lib.Dec.{eqb, ltb}
+use native.Mathlib.Numerals.{add-one}
+use Rattle.std.specs.List.{copy_within}
+use borrow.Rule.Slice.PartMut.{put_mid, mid_of}
 use Rattle.prelude.specs.Choice.{pick}
 use Rattle.kinds.specs.declared.Row.{Row}
-use Rattle.rows.specs.Words.{at, no_row, places_of, rows_from, tabled, filled, count_word, laid_from}
-use Rattle.rows.proofs.Words.{length_places, length_tabled, places_tabled, count_tabled, tabled_tabled, tabled_own, count_before, places_before, count_behind, places_behind}
-use Rattle.rows.proofs.Moves.{length_filled}
+use Rattle.rows.specs.Words.{at, no_row, places_of, rows_from, tabled, filled, words_of, count_word, laid_from}
+use Rattle.rows.proofs.Words.{length_places, length_tabled, places_tabled, count_tabled, tabled_tabled, tabled_own, count_before, places_before, count_behind, places_behind, length_words_of, words_none, part_written, part_read}
+use Rattle.rows.proofs.Moves.{length_filled, opened}
 
 take_used : {A : Type 0} (c : ℕ) (xs : List A) → take (length (take c xs)) xs ≡ take c xs
 take_used c [] = take-nil (length (take {A = _} c [])) ∙ sym (take-nil c)
@@ -63,6 +66,34 @@ module _ {b : ℕ} {l₀ : List ℕ} (h : b + 321 ≤ length l₀) where
 
     pub holds_row : (i : ℕ) → get_or (places_of b l) i no_row ≡ get_or ps i no_row
     holds_row i = ap (λ (xs : List Row). get_or xs i no_row) holds_places
+
+module _ (b : ℕ) (l : List ℕ) (h : b + 321 ≤ length l) where
+  -- the words of the rows from i on, up to k, moved up by a row's
+  pub moved_up : (i k : ℕ) → i ≤ k → k < 64 → copy_within l (b + 1 + 5 * i) (b + 1 + 5 * k) (b + 1 + 5 * (i + 1)) ≡ tabled b (at l b) (opened (places_of b l) i k) l
+  unfolding opened
+  moved_up i k m n =
+      let ps = places_of b l in
+      let rs = drop i (take k ps) in
+      let d = b + 1 + 5 * (i + 1) in
+      let q = b + 1 + 5 * (k + 1) in
+      let e : d + (b + 1 + 5 * k - (b + 1 + 5 * i)) ≡ d + (q - d) = omega arith in
+      let t : take (b + 1 + 5 * k - (b + 1 + 5 * i)) (drop (b + 1 + 5 * i) l) ≡ words_of rs = part_read b l h i k m (omega arith) in
+      rw (t, e, sym (drop-drop (q - d) d l), append_assoc (take d l) (words_of rs) (drop (q - d) (drop d l))) (part_written b l h (i + 1) (k + 1) (omega arith) (omega arith) rs ∙ simp add-one)
+
+  -- zeros that are written over the rows from m on, up to e
+  pub cleared : (m e : ℕ) → m ≤ e → e ≤ 64 → (ws : List ℕ) → ws ≡ replicate (length (mid_of (b + 1 + 5 * m) (b + 1 + 5 * e - (b + 1 + 5 * m)) l)) 0
+      → put_mid (b + 1 + 5 * m) (b + 1 + 5 * e - (b + 1 + 5 * m)) l ws ≡ tabled b (at l b) (take m (places_of b l) ++ (replicate (e - m) no_row ++ drop e (places_of b l))) l
+  cleared m e i k ws q =
+      let ps = places_of b l in
+      let n : length (mid_of (b + 1 + 5 * m) (b + 1 + 5 * e - (b + 1 + 5 * m)) l) ≡ 5 * (e - m) = ap length (part_read b l h m e i k) ∙ length_words_of (drop m (take e ps)) ∙ simp (length-drop, length-take) (omega (arith, length_places b l)) in
+      rw (q, n, sym (words_none (e - m))) (part_written b l h m e i k (replicate (e - m) no_row))
+
+  -- the count that is written behind
+  pub counted : (c : ℕ) (ps : List Row) → length ps ≡ 64 → (n : ℕ) → set (tabled b c ps l) b n ≡ tabled b n ps l
+  counted c ps k n =
+      let t = tabled b c ps l in
+      let g : b + 321 ≤ length t = omega (arith, length_tabled b l h c ps k) in
+      count_write b t g n ∙ ap (λ (qs : List Row). tabled b n qs t) (places_tabled b l h c ps k) ∙ tabled_tabled b l h c ps k n ps
 
 -- ---- other rows in use
 nothing : {A : Type 0} (xs : List A) → length xs ≡ 0 → xs ≡ []

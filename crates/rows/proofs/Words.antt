@@ -5,8 +5,9 @@ use mathlib.Core.Path.{◌≡◌, refl, ap, sym, ◌∙◌}
 use mathlib.Core.List.{List, [], ◌∷◌, ◌++◌, append_assoc}
 use native.Mathlib.Omega.{arith}
 use native.Mathlib.Numerals.{add-one}
-use lib.ListN.{length, get_or, take, drop, set, length-append, length-take, length-drop, take-append-drop, get_or-append}
+use lib.ListN.{length, get_or, take, drop, set, replicate, length-append, length-take, length-drop, take-append-drop, get_or-append}
 use lib.Seq.{drop-cons, take-add, drop-drop, drop-append-le, drop-append-add, take_at, drop_at, get_or_at, get_or-drop, length-take-le, set_split, sets, sets-eq}
+use borrow.Rule.Slice.PartMut.{put_mid, mid_of}
 use Rattle.kinds.specs.declared.Row.{Row}
 use Rattle.rows.specs.Words.{at, first_row, rows_in, words_of, no_row, places_of, rows_from, tabled}
 
@@ -20,10 +21,15 @@ unfolding rows_in
 length_rows_in zero ws = refl
 length_rows_in (suc n) ws = ap suc (length_rows_in n (drop 5 ws))
 
-words_of_append : (rs qs : List Row) → words_of (rs ++ qs) ≡ words_of rs ++ words_of qs
+pub words_of_append : (rs qs : List Row) → words_of (rs ++ qs) ≡ words_of rs ++ words_of qs
 unfolding words_of
 words_of_append [] qs = refl
 words_of_append (r ∷ rs) qs = ap (λ (ws : List ℕ). r.key ∷ r.kind ∷ r.a ∷ r.b ∷ r.c ∷ ws) (words_of_append rs qs)
+
+pub words_none : (n : ℕ) → words_of (replicate n no_row) ≡ replicate (5 * n) 0
+unfolding words_of
+words_none zero = refl
+words_none (suc n) = let e : 5 * suc n ≡ suc (suc (suc (suc (suc (5 * n))))) = omega arith in rw (e, words_none n) refl
 
 -- rows that are written are read
 rows_words : (rs : List Row) (ws : List ℕ) → rows_in (length rs) (words_of rs ++ ws) ≡ rs
@@ -151,32 +157,56 @@ module _ (b : ℕ) (l : List ℕ) (i : ℕ) (k : i < 64) where
       let z : p + 0 ≡ p = omega arith in
       sym (row_is ∙ rw (get_or-drop p l 0 0, get_or-drop p l 1 0, get_or-drop p l 2 0, get_or-drop p l 3 0, get_or-drop p l 4 0, z) refl)
 
-module _ (b : ℕ) (l : List ℕ) (h : b + 321 ≤ length l) (i : ℕ) (k : i < 64) where
-  before : take (b + 1 + 5 * i) l ≡ take b l ++ (at l b ∷ words_of (take i (places_of b l)))
+-- ---- a part of the table
+regroup : (t a r d z : List ℕ) (c : ℕ) → (t ++ (c ∷ a)) ++ (r ++ (d ++ z)) ≡ t ++ ((c ∷ (a ++ (r ++ d))) ++ z)
+regroup t a r d z c = simp append_assoc
+
+module _ (b : ℕ) (l : List ℕ) (h : b + 321 ≤ length l) where
+  before : (i : ℕ) → i ≤ 64 → take (b + 1 + 5 * i) l ≡ take b l ++ (at l b ∷ words_of (take i (places_of b l)))
   unfolding places_of
-  before =
+  before i k =
       let s : 5 * i ≤ length (drop (b + 1) l) = simp length-drop (omega arith) in
       let e : b + 1 + 5 * i ≡ b + (1 + 5 * i) = omega arith in
       let f : 1 + 5 * i ≡ suc (5 * i) = omega arith in
-      rw (e, take-add b (1 + 5 * i) l, drop-cons l b 0 (omega arith), f, take_rows i 64 (drop (b + 1) l) (omega arith), words_rows i (drop (b + 1) l) s, add-one) refl
+      rw (e, take-add b (1 + 5 * i) l, drop-cons l b 0 (omega arith), f, take_rows i 64 (drop (b + 1) l) k, words_rows i (drop (b + 1) l) s, add-one) refl
 
-  behind : drop (b + 1 + 5 * i + 5) l ≡ words_of (drop (suc i) (places_of b l)) ++ drop (b + 321) l
+  behind : (j : ℕ) → j ≤ 64 → drop (b + 1 + 5 * j) l ≡ words_of (drop j (places_of b l)) ++ drop (b + 321) l
   unfolding places_of
-  behind =
-      let rest = drop (5 * suc i) (drop (b + 1) l) in
-      let s : 5 * (64 - suc i) ≤ length rest = simp (length-drop) (omega arith) in
-      let e : drop (b + 321) l ≡ drop (5 * (64 - suc i)) rest = (let q : b + 1 + (5 * suc i + 5 * (64 - suc i)) ≡ b + 321 = omega arith in rw (drop-drop (5 * (64 - suc i)) (5 * suc i) (drop (b + 1) l), drop-drop (5 * suc i + 5 * (64 - suc i)) (b + 1) l, q) refl) in
-      let f : drop (b + 1 + 5 * i + 5) l ≡ rest = (let q : b + 1 + 5 * suc i ≡ b + 1 + 5 * i + 5 = omega arith in rw (drop-drop (5 * suc i) (b + 1) l, q) refl) in
-      rw (f, e, drop_rows (suc i) 64 (drop (b + 1) l) (omega arith), words_rows (64 - suc i) rest s) (sym (take-append-drop (5 * (64 - suc i)) rest))
+  behind j k =
+      let rest = drop (5 * j) (drop (b + 1) l) in
+      let s : 5 * (64 - j) ≤ length rest = simp (length-drop) (omega arith) in
+      let e : drop (b + 321) l ≡ drop (5 * (64 - j)) rest = (let q : b + 1 + (5 * j + 5 * (64 - j)) ≡ b + 321 = omega arith in rw (drop-drop (5 * (64 - j)) (5 * j) (drop (b + 1) l), drop-drop (5 * j + 5 * (64 - j)) (b + 1) l, q) refl) in
+      let f : drop (b + 1 + 5 * j) l ≡ rest = rw (drop-drop (5 * j) (b + 1) l) refl in
+      rw (f, e, drop_rows j 64 (drop (b + 1) l) k, words_rows (64 - j) rest s) (sym (take-append-drop (5 * (64 - j)) rest))
 
+  module _ (i j : ℕ) (m : i ≤ j) (k : j ≤ 64) where
+    -- rows that are written at the places from i on, up to j
+    pub part_written : (rs : List Row) → put_mid (b + 1 + 5 * i) (b + 1 + 5 * j - (b + 1 + 5 * i)) l (words_of rs) ≡ tabled b (at l b) (take i (places_of b l) ++ (rs ++ drop j (places_of b l))) l
+    unfolding tabled
+    part_written rs =
+        let ps = places_of b l in
+        let q : b + 1 + 5 * i + (b + 1 + 5 * j - (b + 1 + 5 * i)) ≡ b + 1 + 5 * j = omega arith in
+        rw (drop-drop (b + 1 + 5 * j - (b + 1 + 5 * i)) (b + 1 + 5 * i) l, q, before i (omega arith), behind j k, words_of_append (take i ps) (rs ++ drop j ps), words_of_append rs (drop j ps)) (regroup (take b l) (words_of (take i ps)) (words_of rs) (words_of (drop j ps)) (drop (b + 321) l) (at l b))
+
+    -- the rows that are read there
+    pub part_read : mid_of (b + 1 + 5 * i) (b + 1 + 5 * j - (b + 1 + 5 * i)) l ≡ words_of (drop i (take j (places_of b l)))
+    part_read =
+        let ps = places_of b l in
+        let n : length (take j ps) ≡ j = length-take-le j ps (omega (arith, length_places b l)) in
+        let e : drop i ps ≡ drop i (take j ps) ++ drop j ps = ap (drop i) (sym (take-append-drop j ps)) ∙ drop-append-le i (take j ps) (drop j ps) (omega arith) in
+        let c : length (words_of (drop i (take j ps))) ≡ b + 1 + 5 * j - (b + 1 + 5 * i) = length_words_of (drop i (take j ps)) ∙ simp length-drop (omega arith) in
+        rw (behind i (omega arith), e, words_of_append (drop i (take j ps)) (drop j ps), append_assoc (words_of (drop i (take j ps))) (words_of (drop j ps)) (drop (b + 321) l)) (take_at (words_of (drop i (take j ps))) (words_of (drop j ps) ++ drop (b + 321) l) _ c)
+
+module _ (b : ℕ) (l : List ℕ) (h : b + 321 ≤ length l) (i : ℕ) (k : i < 64) where
   -- a row that is written at its place
   stored : (r : Row) → sets l (b + 1 + 5 * i) (r.key ∷ r.kind ∷ r.a ∷ r.b ∷ r.c ∷ []) ≡ tabled b (at l b) (set (places_of b l) i r) l
   unfolding tabled words_of
   stored r =
       let p = places_of b l in
       let s : i < length p = omega (arith, length_places b l) in
+      let e : b + 1 + 5 * i + 5 ≡ b + 1 + 5 * suc i = omega arith in
       sets-eq (r.key ∷ r.kind ∷ r.a ∷ r.b ∷ r.c ∷ []) l (b + 1 + 5 * i) (omega arith)
-      ∙ rw (before, behind, set_split p i r s, words_of_append (take i p) (r ∷ drop (suc i) p)) (simp append_assoc)
+      ∙ rw (before b l h i (omega arith), e, behind b l h (suc i) k, set_split p i r s, words_of_append (take i p) (r ∷ drop (suc i) p)) (simp append_assoc)
 
   pub write_is : (r : Row)
       → set (set (set (set (set l (b + 1 + 5 * i) r.key) (b + 1 + 5 * i + 1) r.kind) (b + 1 + 5 * i + 2) r.a) (b + 1 + 5 * i + 3) r.b) (b + 1 + 5 * i + 4) r.c

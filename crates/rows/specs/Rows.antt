@@ -1,13 +1,11 @@
 -- A table as the list of its rows in use, and what is done to the list (RULES.md, section 10.1).
 -- how many rows a table has room for
-use Rattle.std.specs.Prelude.{ℕ, Bool, true, false, List, [], ◌∷◌, ◌++◌, map, length, eqb, ltb, leb}
+use Rattle.std.specs.Prelude.{ℕ, Bool, true, false, List, [], ◌∷◌, ◌++◌, map, length, eqb, ltb, leb, None, Option, Some}
 use Rattle.prelude.specs.Lists.{padded, such}
 use Rattle.prelude.specs.Choice.{pick, no}
 use Rattle.kinds.specs.declared.Entry.{Entry}
 use Rattle.kinds.specs.declared.Entry.TheVariants.{Dialed, Window, Path, Other as OtherEntry}
 use Rattle.kinds.specs.declared.Row.{Row}
-use Rattle.rows.specs.declared.Found.{Found}
-use Rattle.rows.specs.declared.Found.TheVariants.{At, Nothing}
 use Rattle.rows.specs.declared.Keep.{Keep}
 use Rattle.rows.specs.declared.Keep.TheVariants.{Below, Above, Other, Lasting}
 use Rattle.rows.specs.declared.Marks.{Marks}
@@ -17,9 +15,9 @@ abbrev pub capacity : ℕ
 capacity = 64
 
 -- what the first row with the key says
-unfoldable pub find_in : ℕ → List Row → Found
-find_in k [] = Nothing
-find_in k (r ∷ rs) = pick (eqb r.key k) (At (entry_of r)) (find_in k rs)
+unfoldable pub find_in : ℕ → List Row → Option Entry
+find_in k [] = None
+find_in k (r ∷ rs) = pick (eqb r.key k) (Some (entry_of r)) (find_in k rs)
 
 -- a window that has not ended at the reading; any other entry
 abbrev pub lasts : ℕ → Entry → Bool

@@ -2,7 +2,7 @@
 // words each, the rows in use first. Any words are a ledger: a count past 64 counts as 64. No other crate knows how rows lie.
 #![tactic(auto)]
 
-ghost use Rattle.std.specs.Prelude.{◌≡◌, ◌++◌, ◌≤◌, ◌<◌, ◌+◌, ◌-◌, length, set, get_or, take, drop, replicate};
+ghost use Rattle.std.specs.Prelude.{◌≡◌, ◌++◌, ◌≤◌, ◌<◌, ◌+◌, ◌*◌, ◌-◌, length, set, get_or, take, drop, replicate};
 ghost use Rattle.prelude.specs.Choice.{no};
 ghost use Rattle.rows.specs.Rows.{capacity, keeps_row, kept, find_in, without, crowded, marked, marks_by};
 ghost use Rattle.kinds.specs.declared.Entry.{Entry};
@@ -15,8 +15,10 @@ use kinds::{Entry, Row};
 // How many rows a table has room for.
 pub const ROWS: usize = 64;
 
-// The count, and five words for each row.
-const TABLE_WORDS: usize = 1 + 5 * ROWS;
+const ROW_WORDS: usize = 5;
+
+// The count, and the words of each row.
+const TABLE_WORDS: usize = 1 + ROW_WORDS * ROWS;
 
 pub type Ledger = [u64; 3 * TABLE_WORDS];
 
@@ -29,12 +31,6 @@ pub enum Table {
     Windows,
     // The attribution of each connection.
     Paths,
-}
-
-#[derive(Clone, Copy)]
-pub enum Found {
-    At(Entry),
-    Nothing,
 }
 
 // Which rows are kept.
@@ -85,18 +81,10 @@ fn keeps(keep: Keep, row: Row) -> bool
 
 // ---- words
 
-fn size(s: &[u64]) -> usize
-    ensures { result ≡ length s.now }
-{
-    s.len()
-}
-
 // How many words a ledger has: a fact for the proofs.
 pub fn known(l: &Ledger)
     ensures { length l.now ≡ ledger_words }
-{
-    size(l);
-}
+{}
 
 fn start_of(table: Table) -> usize
     ensures { (result ≡ start_of table) × (result ≤ start_of Paths) }
@@ -119,18 +107,26 @@ fn count(l: &Ledger, b: usize) -> usize
     ROWS
 }
 
+// Where the row i begins.
+fn place(b: usize, i: usize) -> usize
+    requires { (b ≤ start_of Paths) × (i ≤ capacity) }
+    ensures { result ≡ b + 1 + 5 * i }
+{
+    b + 1 + ROW_WORDS * i
+}
+
 fn key_at(l: &Ledger, b: usize, i: usize) -> u64
     requires { (b ≤ start_of Paths) × (i < capacity) }
     ensures { result ≡ (get_or (places_of b l.now) i no_row).key }
 {
-    l[b + 1 + 5 * i]
+    l[place(b, i)]
 }
 
 fn read(l: &Ledger, b: usize, i: usize) -> Row
     requires { (b ≤ start_of Paths) × (i < capacity) }
     ensures { result ≡ get_or (places_of b l.now) i no_row }
 {
-    let p = b + 1 + 5 * i;
+    let p = place(b, i);
     Row {
         key: l[p],
         kind: l[p + 1],
@@ -144,8 +140,7 @@ fn write(l: &mut Ledger, b: usize, i: usize, row: Row)
     requires { (b ≤ start_of Paths) × (i < capacity) }
     ensures { l.new ≡ tabled b (at l.old b) (set (places_of b l.old) i row) l.old }
 {
-    known(l);
-    let p = b + 1 + 5 * i;
+    let p = place(b, i);
     l[p] = row.key;
     l[p + 1] = row.kind;
     l[p + 2] = row.a;
@@ -158,14 +153,8 @@ fn bring(l: &mut Ledger, b: usize, i: usize, k: usize)
     requires { (b ≤ start_of Paths) × (i ≤ k) × (k < capacity) }
     ensures { l.new ≡ tabled b (at l.old b) (brought (places_of b l.old) i k) l.old }
 {
-    known(l);
     let row = read(l, b, k);
-    let mut j = k;
-    while i < j {
-        j -= 1;
-        let lower = read(l, b, j);
-        write(l, b, j + 1, lower);
-    }
+    l.copy_within(place(b, i)..place(b, k), place(b, i + 1));
     write(l, b, i, row);
 }
 
@@ -175,18 +164,13 @@ fn divide(l: &mut Ledger, b: usize, n: usize, key: u64) -> usize
     ensures count { (result ≡ length (kept (Below key) (take n (places_of b l.old)))) × (result ≤ n) }
     ensures words { l.new ≡ tabled b (at l.old b) (divided key n (places_of b l.old)) l.old }
 {
-    known(l);
-    let mut m: usize = 0;
-    let mut i: usize = 0;
-    while i < n {
-        let from = i;
-        i += 1;
-        if key_at(l, b, from) < key {
-            let to = m;
-            m += 1;
-            if to < from {
-                bring(l, b, to, from);
+    let mut m = 0;
+    for i in 0..n {
+        if key_at(l, b, i) < key {
+            if m < i {
+                bring(l, b, m, i);
             }
+            m += 1;
         }
     }
     m
@@ -198,20 +182,14 @@ fn pack(l: &mut Ledger, b: usize, marks: Marks) -> usize
     ensures count { (result ≡ length (marked marks.keep (rows_from b l.old))) × (result ≤ length (rows_from b l.old)) }
     ensures words { l.new ≡ tabled b (at l.old b) (filled (marked marks.keep (rows_from b l.old)) (places_of b l.old)) l.old }
 {
-    known(l);
     let n = count(l, b);
-    let mut m: usize = 0;
-    let mut i: usize = 0;
-    while i < n {
-        let from = i;
-        i += 1;
-        if marks.keep[from] {
-            let to = m;
-            m += 1;
-            if to < from {
-                let row = read(l, b, from);
-                write(l, b, to, row);
+    let mut m = 0;
+    for i in 0..n {
+        if marks.keep[i] {
+            if m < i {
+                write(l, b, m, read(l, b, i));
             }
+            m += 1;
         }
     }
     m
@@ -222,13 +200,7 @@ fn settle(l: &mut Ledger, b: usize, n: usize, m: usize)
     requires { (b ≤ start_of Paths) × (n ≤ capacity) × (m ≤ capacity) }
     ensures { l.new ≡ tabled b (count_word (at l.old b) n m) (take m (places_of b l.old) ++ (replicate (n - m) no_row ++ drop (m + (n - m)) (places_of b l.old))) l.old }
 {
-    known(l);
-    let none = no_row();
-    let mut i = m;
-    while i < n {
-        write(l, b, i, none);
-        i += 1;
-    }
+    l[place(b, m)..place(b, n.max(m))].fill(0);
     if n != m {
         l[b] = m as u64;
     }
@@ -236,19 +208,16 @@ fn settle(l: &mut Ledger, b: usize, n: usize, m: usize)
 
 // ---- the calls, over a table that begins at b
 
-fn find_from(l: &Ledger, b: usize, key: u64) -> Found
+fn find_from(l: &Ledger, b: usize, key: u64) -> Option<Entry>
     requires { b ≤ start_of Paths }
     ensures { result ≡ find_in key (rows_from b l.now) }
 {
-    let n = count(l, b);
-    let mut i: usize = 0;
-    while i < n {
+    for i in 0..count(l, b) {
         if key_at(l, b, i) == key {
-            return Found::At(kinds::entry_of(read(l, b, i)));
+            return Some(kinds::entry_of(read(l, b, i)));
         }
-        i += 1;
     }
-    Found::Nothing
+    None
 }
 
 fn is_crowded_from(l: &Ledger, b: usize, key: u64) -> bool
@@ -260,8 +229,8 @@ fn is_crowded_from(l: &Ledger, b: usize, key: u64) -> bool
     }
     let found = find_from(l, b, key);
     match found {
-        Found::At(_) => false,
-        Found::Nothing => true,
+        Some(_) => false,
+        None => true,
     }
 }
 
@@ -269,14 +238,11 @@ fn marks_from(l: &Ledger, b: usize, keep: Keep) -> Marks
     requires { b ≤ start_of Paths }
     ensures { result ≡ marks_by (keeps_row keep) (rows_from b l.now) }
 {
-    let n = count(l, b);
     let mut marks = Marks {
         keep: [false; ROWS],
     };
-    let mut i: usize = 0;
-    while i < n {
+    for i in 0..count(l, b) {
         marks.keep[i] = keeps(keep, read(l, b, i));
-        i += 1;
     }
     marks
 }
@@ -285,7 +251,6 @@ fn retain_from(l: &mut Ledger, b: usize, marks: Marks)
     requires { b ≤ start_of Paths }
     ensures { l.new ≡ laid_from b (marked marks.keep (rows_from b l.old)) l.old }
 {
-    known(l);
     let n = count(l, b);
     let m = pack(l, b, marks);
     settle(l, b, n, m);
@@ -297,7 +262,6 @@ fn insert_from(l: &mut Ledger, b: usize, row: Row) -> bool
     ensures answer { result ≡ no (crowded row.key (rows_from b l.old)) }
     ensures words { l.new ≡ laid_from b (entered row (rows_from b l.old)) l.old }
 {
-    known(l);
     if is_crowded_from(l, b, row.key) {
         return false;
     }
@@ -339,7 +303,7 @@ pub fn row_at(l: &Ledger, table: Table, i: usize) -> Row
 }
 
 // What the first row with the key says.
-pub fn find(l: &Ledger, table: Table, key: u64) -> Found
+pub fn find(l: &Ledger, table: Table, key: u64) -> Option<Entry>
     ensures { result ≡ find_in key (rows_of table l.now) }
 {
     find_from(l, start_of(table), key)

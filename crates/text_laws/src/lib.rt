@@ -1,16 +1,15 @@
 // Laws of text: what is printed is read, and only that (section 12.3 of docs/RULES.md).
 #![tactic(auto)]
 
-ghost use Rattle.std.specs.Prelude.{◌≡◌, true, List, ℕ, ◌≤◌};
+ghost use Rattle.std.specs.Prelude.{◌≡◌, true, List, ℕ, ◌≤◌, Some};
 ghost use Rattle.prelude.specs.Numbers.{max_u64};
 ghost use Rattle.text.specs.Decimal.{decimal_of, decimal};
 ghost use Rattle.text.specs.Hexadecimal.{is_hexadecimal, bytes_of, hexadecimal, Bytes};
-ghost use Rattle.text.specs.declared.Number.TheVariants as Number;
 
 // A number is read from its text, and from no other.
 pub fn decimal_round_trip()
-    ensures read { (v : ℕ) → v ≤ max_u64 → decimal_of (decimal v) ≡ Number.Value v }
-    ensures only { (s : List ℕ) (v : ℕ) → decimal_of s ≡ Number.Value v → s ≡ decimal v }
+    ensures read { (v : ℕ) → v ≤ max_u64 → decimal_of (decimal v) ≡ Some v }
+    ensures only { (s : List ℕ) (v : ℕ) → decimal_of s ≡ Some v → s ≡ decimal v }
 {}
 
 // Bytes are read from their pairs of digits, and from no other text.

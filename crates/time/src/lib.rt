@@ -10,26 +10,17 @@ pub const LAST: u64 = u64::MAX;
 pub fn saturating_add(a: u64, b: u64) -> u64
     ensures { result ≡ plus a b }
 {
-    if b <= LAST - a {
-        return a + b;
-    }
-    LAST
+    a.saturating_add(b)
 }
 
 pub fn saturating_sub(a: u64, b: u64) -> u64
     ensures { result ≡ a - b }
 {
-    if b < a {
-        return a - b;
-    }
-    0
+    a.saturating_sub(b)
 }
 
 pub fn min(a: u64, b: u64) -> u64
     ensures { result ≡ min a b }
 {
-    if a < b {
-        return a;
-    }
-    b
+    a.min(b)
 }

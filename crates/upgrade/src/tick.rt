@@ -3,101 +3,67 @@ ghost use Rattle.std.specs.Prelude.{◌≡◌};
 ghost use Rattle.upgrade.specs.Ticks.{tick_handshaking, tick_exchange, tick_punching, tick_at};
 
 use budget::UpgradeStop;
-use circuit::decision::{Decision, Fate};
+use circuit::decision::{Decision, Fate, Said};
 use circuit::state::{Core, Phase};
-use circuit::{decision, state};
 use ids::{ConnectionId, StreamId};
 use schedule::BlastSchedule;
 use vocabulary::{Effect, Host};
 
+#[tactic(auto, unfolding(crate::specs::Ticks::tick_handshaking))]
 fn tick_handshaking(c: Core, at: u64, deadline: u64) -> Decision
     ensures { result ≡ tick_handshaking c at deadline }
 {
     if at < deadline {
-        return decision::quiet(c);
+        return Decision::quiet(c);
     }
-    let circuit = c.circuit;
-    let d = state::with_phase(c, Phase::Done { promoted: false });
-    decision::decided(
-        d,
+    Decision::decided(
+        c.with_phase(Phase::Done { promoted: false }),
         Fate::Kept,
-        decision::event(Effect::Close { conn: circuit }, Effect::Nothing),
-        Effect::Nothing,
+        Said::event(Some(Effect::Close { conn: c.circuit }), None),
+        None,
     )
 }
 
+#[tactic(auto, unfolding(crate::specs::Ticks::tick_exchange))]
 pub fn tick_exchange(c: Core, host: Host, conn: ConnectionId, stream: StreamId) -> Decision
     ensures { result ≡ tick_exchange c host conn stream }
 {
-    let budget = c.budget;
-    let due = budget.due(host.at);
-    match due {
-        UpgradeStop::None => {
-            return decision::quiet(c);
+    match c.budget.due(host.at) {
+        None => Decision::quiet(c),
+        Some(UpgradeStop::ExchangeTimeout { .. }) if host.at < c.budget.deadline => {
+            rounds::fail_round(c, host, Said::reset(conn, stream))
         }
-        UpgradeStop::ExchangeTimeout { .. } => {
-            if host.at < budget.deadline {
-                return rounds::fail_round(c, host, decision::reset(conn, stream));
-            }
-            return decision::decided(
-                state::finish(c),
-                Fate::Kept,
-                decision::reset(conn, stream),
-                Effect::Nothing,
-            );
-        }
-        UpgradeStop::UpgradeTimeout { .. } => {
-            return decision::decided(
-                state::finish(c),
-                Fate::Kept,
-                decision::reset(conn, stream),
-                Effect::Nothing,
-            );
-        }
+        Some(_) => { Decision::decided(c.finish(), Fate::Kept, Said::reset(conn, stream), None) }
     }
 }
 
 // The deadline comes first; else the instants newly due go out, and the round is over at the window's end.
+#[tactic(auto, unfolding(crate::specs::Ticks::tick_punching))]
 fn tick_punching(c: Core, host: Host, until: u64, blast: BlastSchedule) -> Decision
     ensures { result ≡ tick_punching c host until blast }
 {
-    let budget = c.budget;
-    if budget.deadline <= host.at {
-        return decision::quiet(state::finish(c));
+    if c.budget.deadline <= host.at {
+        return Decision::quiet(c.finish());
     }
-    let settings = c.settings;
-    let targets = c.targets;
-    let due = blast.newly_due(settings.interval, host.at);
-    let said = decision::burst(due.times, settings.payload, targets);
+    let due = blast.newly_due(c.settings.interval, host.at);
+    let said = Said::burst(due.times, c.settings.payload, c.targets);
     if host.at < until {
-        let next = due.schedule;
         let phase = Phase::Punching {
-            until: until,
-            blast: next,
+            until,
+            blast: due.schedule,
         };
-        return decision::decided(
-            state::with_phase(c, phase),
-            Fate::Kept,
-            said,
-            Effect::Nothing,
-        );
+        return Decision::decided(c.with_phase(phase), Fate::Kept, said, None);
     }
-    rounds::open_round(c, budget, host, said)
+    rounds::open_round(c, c.budget, host, said)
 }
 
 pub fn tick(c: Core, host: Host) -> Decision
     ensures { result ≡ tick_at c host c.phase }
 {
-    let phase = c.phase;
-    match phase {
+    match c.phase {
         Phase::Handshaking { deadline } => tick_handshaking(c, host.at, deadline),
-        Phase::Exchange {
-            conn,
-            stream,
-            count: _,
-            connect: _,
-        } => tick_exchange(c, host, conn, stream),
+        Phase::Exchange { conn, stream, .. } => tick_exchange(c, host, conn, stream),
         Phase::Punching { until, blast } => tick_punching(c, host, until, blast),
-        Phase::Done { promoted: _ } => decision::quiet(c),
+        Phase::Done { .. } => Decision::quiet(c),
     }
 }

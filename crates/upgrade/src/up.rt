@@ -3,47 +3,41 @@ ghost use Rattle.std.specs.Prelude.{◌≡◌};
 ghost use Rattle.upgrade.specs.Ups.{upgraded_of, announced, established_at, took_of, connected_of, up_at};
 
 use budget::UpgradeBudget;
-use circuit::decision::{Decision, Fate};
+use circuit::decision::{Decision, Fate, Said};
 use circuit::state::{Core, Phase};
-use circuit::{decision, state};
 use ids::{ConnectionId, PeerId};
 use vocabulary::{Effect, Host};
 
 // A direct connection from the source ends the hole punch.
-fn upgraded(c: Core, new: ConnectionId, third: Effect) -> Decision
+#[tactic(auto, unfolding(crate::specs::Ups::upgraded_of))]
+fn upgraded(c: Core, new: ConnectionId, third: Option<Effect>) -> Decision
     ensures { result ≡ upgraded_of c new third }
 {
-    let source = c.source;
-    let circuit = c.circuit;
     let first = Effect::Upgrade {
-        peer: source,
-        old: circuit,
-        new: new,
+        peer: c.source,
+        old: c.circuit,
+        new,
     };
-    decision::decided(
-        state::finish(c),
+    Decision::decided(
+        c.finish(),
         Fate::Kept,
-        decision::event(first, third),
-        Effect::Nothing,
+        Said::event(Some(first), third),
+        None,
     )
 }
 
 // The circuit carries the relayed path: announce it and, when upgrades are on, start the first round.
+#[tactic(auto, unfolding(crate::specs::Ups::announced))]
 fn announce_path(c: Core, host: Host) -> Decision
     ensures { result ≡ announced c host }
 {
-    let source = c.source;
-    let relay = c.relay;
-    let circuit = c.circuit;
+    let path = Effect::Path {
+        peer: c.source,
+        relay: c.relay,
+        conn: c.circuit,
+    };
+    let said = Said::event(Some(path), None);
     let settings = c.settings;
-    let said = decision::event(
-        Effect::Path {
-            peer: source,
-            relay: relay,
-            conn: circuit,
-        },
-        Effect::Nothing,
-    );
     if settings.upgrades {
         let budget = UpgradeBudget::arm(
             host.at,
@@ -53,83 +47,50 @@ fn announce_path(c: Core, host: Host) -> Decision
         );
         return rounds::open_round(c, budget, host, said);
     }
-    decision::decided(state::finish(c), Fate::Kept, said, Effect::Nothing)
+    Decision::decided(c.finish(), Fate::Kept, said, None)
 }
 
 // A connection from the source.
 fn established(c: Core, host: Host, conn: ConnectionId, relayed: bool) -> Decision
     ensures { result ≡ established_at c host conn relayed c.phase }
 {
-    let circuit = c.circuit;
-    let phase = c.phase;
-    match phase {
-        Phase::Handshaking { deadline: _ } => {
-            if relayed {
-                if conn.0 == circuit.0 {
-                    return announce_path(c, host);
-                }
-                return decision::quiet(c);
-            }
-            return upgraded(c, conn, Effect::Nothing);
-        }
+    match c.phase {
+        Phase::Handshaking { .. } if relayed && conn == c.circuit => announce_path(c, host),
+        Phase::Handshaking { .. } if !relayed => upgraded(c, conn, None),
         Phase::Exchange {
-            conn: at,
+            conn: on,
             stream,
             ..
-        } => {
-            if relayed {
-                return decision::quiet(c);
-            }
-            let reset = Effect::Reset {
-                conn: at,
-                stream: stream,
-            };
-            return upgraded(c, conn, reset);
-        }
-        Phase::Punching { .. } => {
-            if relayed {
-                return decision::quiet(c);
-            }
-            return upgraded(c, conn, Effect::Nothing);
-        }
-        Phase::Done { promoted: _ } => {
-            return decision::quiet(c);
-        }
+        } if !relayed => upgraded(c, conn, Some(Effect::Reset { conn: on, stream })),
+        Phase::Punching { .. } if !relayed => upgraded(c, conn, None),
+        _ => Decision::quiet(c),
     }
 }
 
+#[tactic(auto, unfolding(crate::specs::Ups::took_of))]
 fn takes(c: Core, peer: PeerId, conn: ConnectionId, relayed: bool) -> bool
     ensures { result ≡ took_of c peer conn relayed }
 {
-    let source = c.source;
-    let circuit = c.circuit;
-    let phase = c.phase;
-    if state::is_done(phase) {
-        return false;
-    }
-    if peer.0 != source.0 {
-        return false;
-    }
-    if relayed {
-        return conn.0 == circuit.0;
-    }
-    true
+    !c.phase.is_done() && peer == c.source && (!relayed || conn == c.circuit)
 }
 
+#[tactic(auto, unfolding(crate::specs::Ups::connected_of))]
 fn connected(c: Core, host: Host, peer: PeerId, conn: ConnectionId, relayed: bool) -> Decision
     ensures { result ≡ connected_of c host peer conn relayed }
 {
-    let source = c.source;
-    if peer.0 != source.0 {
-        return decision::quiet(c);
+    if peer == c.source {
+        return established(c, host, conn, relayed);
     }
-    established(c, host, conn, relayed)
+    Decision::quiet(c)
 }
 
+#[tactic(auto, unfolding(crate::specs::Ups::up_at))]
 pub fn up(c: Core, host: Host, peer: PeerId, conn: ConnectionId, relayed: bool) -> Decision
     ensures { result ≡ up_at c host peer conn relayed }
 {
     let took = takes(c, peer, conn, relayed);
-    let d = connected(c, host, peer, conn, relayed);
-    Decision { took: took, ..d }
+    Decision {
+        took,
+        ..connected(c, host, peer, conn, relayed)
+    }
 }

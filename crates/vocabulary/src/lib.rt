@@ -2,7 +2,6 @@
 #![tactic(auto)]
 
 use ids::{ConnectionId, PeerId, StreamId};
-use refusal::Refusal;
 
 #[derive(Clone, Copy)]
 pub struct Settings {
@@ -18,25 +17,13 @@ pub struct Settings {
 
 // ---- what the host answers within a call
 
-// The source's current connection.
-#[derive(Clone, Copy)]
-pub enum Live {
-    Nothing,
-    On(ConnectionId),
-}
-
-// The stream that an opening would get.
-#[derive(Clone, Copy)]
-pub enum Offer {
-    Nothing,
-    Stream(ConnectionId, StreamId),
-}
-
 #[derive(Clone, Copy)]
 pub struct Host {
     pub at: u64,
-    pub live: Live,
-    pub offer: Offer,
+    // The source's current connection.
+    pub live: Option<ConnectionId>,
+    // The stream that an opening would get, and its connection.
+    pub offer: Option<(ConnectionId, StreamId)>,
 }
 
 // What a stream brings; an end of either kind closes it.
@@ -52,7 +39,6 @@ pub enum StreamInput {
 
 #[derive(Clone, Copy)]
 pub enum Effect {
-    Nothing,
     Path {
         peer: PeerId,
         relay: PeerId,
@@ -82,17 +68,4 @@ pub enum Effect {
         conn: ConnectionId,
         stream: StreamId,
     },
-}
-
-#[derive(Clone, Copy)]
-pub enum Outcome {
-    Accepted,
-    Refused(Refusal),
-}
-
-// When to call next, if at all.
-#[derive(Clone, Copy)]
-pub enum Deadline {
-    At(u64),
-    None,
 }

@@ -36,9 +36,6 @@ none_yet b c = refl
 pub none_there : (s : List ℕ) → length s ≡ 0 → More ≡ frame_of s
 none_there s h = sym (rw h (none_yet (get_or s 0 0) (get_or s 1 0)))
 
-pub one_there : (s : List ℕ) → length s ≡ 1 → frame_from (get_or s 0 0) 0 1 ≡ frame_of s
-one_there s h = rw h (second_free (get_or s 0 0) 0 (get_or s 1 0) 1 (omega arith))
-
 -- a frame's first n bytes are judged by the first two bytes of all
 pub frame_prefix : (s : List ℕ) (n : ℕ) → n ≤ length s → frame_of (take n s) ≡ frame_from (get_or s 0 0) (get_or s 1 0) n
 frame_prefix s zero h = first_free _ _ _ _ 0 (omega arith)

@@ -1,14 +1,17 @@
 -- How a varint is written: one group after the other, the least significant first.
 -- Assumes nothing.
-use mathlib.Core.Path.{◌≡◌, refl, ap}
+use mathlib.Core.Path.{◌≡◌, refl, sym, ap, ◌∙◌}
+use mathlib.Core.Bool.{Bool, true, false}
 use mathlib.Core.List.{List, [], ◌∷◌}
-use Prim.Native.Nat.{ℕ, zero, suc, ◌+◌, ◌-◌, ◌*◌, ◌/◌, ◌%◌, ◌^◌, ◌<◌, ◌≤◌}
+use Prim.Native.Nat.{ℕ, zero, suc, ◌+◌, ◌-◌, ◌*◌, ◌/◌, ◌%◌, ◌^◌, ◌<◌, ◌≤◌, max}
 use native.Mathlib.Omega.{arith}
-use lib.Pow.{pow-add}
+use lib.Pow.{pow-add, pow_pos, pow_mono}
+use lib.Dec.{ltb}
 use native.Mathlib.Numerals.{add-one}
 use lib.ListN.{length, set}
 use lib.Seq.{sets}
-use borrow.Author.Tests.{lt-ltb, le-ltb}
+use borrow.Author.Tests.{lt-ltb, le-ltb, ltb-true, ltb-false}
+use Rattle.prelude.specs.Choice.{pick}
 use Rattle.wire.specs.Varint.{groups, encoded}
 
 -- the number below 128 is one group, whatever the count
@@ -41,12 +44,28 @@ module _ (k v : ℕ) (h : v < 2 ^ (7 * k)) (g : 128 ≤ v) where
       let e : k - 1 ≡ suc (k - 2) = omega arith in
       rw (e, le-ltb v 128 g)
 
--- n - 1 groups are written, and one more is
-pub counted : (n v : ℕ) → v < 2 ^ (7 * (11 - n)) → 128 ≤ v → 1 ≤ n → length (groups (10 - n) v) ≡ suc (length (groups (10 - (n + 1)) (v / 128)))
-counted n v h g m =
-    let e : 10 - n ≡ (11 - n) - 1 = omega arith in
-    let d : 10 - (n + 1) ≡ (11 - n) - 2 = omega arith in
-    rw (e, d) (ap length (one_more (11 - n) v h g))
+-- one group for each seven bits
+bits_counted : (n v r : ℕ) → 2 ^ r ≤ v → v < 2 * 2 ^ r → r < 7 * suc n → length (groups n v) ≡ r / 7 + 1
+unfolding groups
+bits_counted zero v r h g k = omega arith
+bits_counted (suc n) v r h g k = go (ltb r 7) refl (bits_counted n (v / 128) (r - 7))
+  where
+    go : (t : Bool) → ltb r 7 ≡ t → (2 ^ (r - 7) ≤ v / 128 → v / 128 < 2 * 2 ^ (r - 7) → r - 7 < 7 * suc n → length (groups n (v / 128)) ≡ (r - 7) / 7 + 1)
+        → length (pick (ltb v 128) (v ∷ []) ((128 + v % 128) ∷ groups n (v / 128))) ≡ r / 7 + 1
+    go true e f =
+        let l : r < 7 = ltb-true _ _ e in
+        let m : 2 ^ r ≤ 64 = pow_mono {i = r} {j = 6} (omega arith) in
+        rw (lt-ltb v 128 (omega arith)) (omega arith)
+    go false e f =
+        let l : 7 ≤ r = ltb-false _ _ e in
+        let p : 2 ^ r ≡ 2 ^ (r - 7) * 128 = let q : r ≡ (r - 7) + 7 = omega arith in ap (λ (x : ℕ). 2 ^ x) q ∙ pow-add 2 (r - 7) 7 in
+        let m : 1 ≤ 2 ^ (r - 7) = pow_pos (r - 7) in
+        rw (le-ltb v 128 (omega arith)) (omega (arith, f (omega arith) (omega arith) (omega arith)))
+
+pub shortest : (v r m : ℕ) → m ≡ max v 1 → 2 ^ r ≤ m → m < 2 * 2 ^ r → r < 64 → r / 7 + 1 ≡ length (encoded v)
+unfolding groups
+shortest zero r m e h g k = let z : m ≡ 1 = omega arith in sym (bits_counted 9 1 r (rw z at h) (rw z at g) (omega arith))
+shortest (suc v) r m e h g k = let z : m ≡ suc v = omega arith in sym (bits_counted 9 (suc v) r (rw z at h) (rw z at g) (omega arith))
 
 -- p - at groups are stored, and one more is
 module _ (o : List ℕ) (at p v : ℕ) (m : at ≤ p) (h : v < 2 ^ (7 * (10 + at - p))) (g : 128 ≤ v) where
@@ -74,8 +93,8 @@ stores_last o p n v h = rw (last_one n v h)
 
 -- the loop's start: ten groups are left at most
 pub ten_left : (o : List ℕ) (at v : ℕ) → v < 2 ^ 64
-    → (at ≤ at) × (at ≤ at + 9) × (v < 2 ^ (7 * (10 + at - at))) × (sets o at (groups (9 + at - at) v) ≡ sets o at (encoded v)) × (length o ≡ length o)
+    → (at ≤ at) × (at ≤ at + 9) × (v < 2 ^ (7 * (10 + at - at))) × (sets o at (groups (9 + at - at) v) ≡ sets o at (encoded v))
 ten_left o at v h =
     let e : 10 + at - at ≡ 10 = omega arith in
     let d : 9 + at - at ≡ 9 = omega arith in
-    (omega arith, omega arith, rw e (omega arith), rw d, refl)
+    (omega arith, omega arith, rw e (omega arith), rw d)

@@ -3,5 +3,5 @@ pub mod Spans
 pub mod Groups
 pub mod VarintAgain
 pub mod Frames
-pub mod Entries
+pub mod EntryByEntry
 pub mod Listed

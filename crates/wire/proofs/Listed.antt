@@ -10,7 +10,7 @@ use lib.Dec.{eqb, leb}
 use lib.ListN.{take, drop, length, length-drop, take-append-drop, get_or, length-append}
 use lib.Seq.{length-take-le, get_or-drop, drop-drop, take-append_seam, drop-append_seam}
 use Rattle.wire.specs.Lists.{size_at, broken, opens, along, entries, entry, listed}
-use Rattle.wire.proofs.Entries.{once_round, opens_long}
+use Rattle.wire.proofs.EntryByEntry.{once_round, opens_long}
 
 -- what holds of every address
 abbrev pub All : (List ℕ → Type 0) → List (List ℕ) → Type 0

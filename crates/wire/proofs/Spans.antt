@@ -1,11 +1,10 @@
 -- How a varint is read: where it ends, and its number from the last group to the first.
 -- Assumes nothing.
-use mathlib.Core.Path.{◌≡◌, refl, sym, subst, ◌∙◌}
+use mathlib.Core.Path.{◌≡◌, refl, sym, ap, subst, ◌∙◌}
 use mathlib.Core.List.{List, [], ◌∷◌}
-use mathlib.Core.Bool.{Bool, true, false}
+use mathlib.Core.Bool.{Bool, true, false, not}
 use mathlib.Core.Logic.{⊎_elim}
 use Prim.Native.Nat.{ℕ, zero, suc, ◌+◌, ◌-◌, ◌*◌, ◌%◌, ◌^◌, ◌<◌, ◌≤◌}
-use native.Mathlib.Numerals.{add-one}
 use native.Mathlib.Omega.{arith}
 use native.Mathlib.Nat.{lt_of_lt_of_le, eq-or-lt_of_le}
 use lib.Arith.{digits_lt}
@@ -13,50 +12,42 @@ use lib.Pow.{pow-add, pow_mono}
 use lib.Dec.{ltb, leb, eqb}
 use lib.ListN.{length, get_or, take, drop, length-take, length-drop, drop_of_length-le}
 use lib.Seq.{drop-cons, get_or-take, take_all}
-use borrow.Author.Tests.{lt-ltb, le-ltb, eqb-false}
+use borrow.Author.Tests.{eqb-false}
+use Rattle.std.specs.Prelude.{Option, Some, None, cond}
+use Rattle.std.specs.List.{position, position_or_len}
+use Rattle.std.proofs.lemmas.Bool.Decides.{nat_tests}
 use Rattle.prelude.specs.Choice.{pick}
 use Rattle.wire.specs.Varint.{value_of, behind, span_of, valued, varint_of}
-use Rattle.wire.specs.declared.Varint.TheVariants.{Value, Malformed}
+use Rattle.std.proofs.lemmas.Option.{some_pair_parts}
 
 -- ---- where it ends
 
--- a varint's length behind i more bytes; 0 stands for none
-abbrev pub after : ℕ → ℕ → ℕ
-after i zero = 0
-after i (suc n) = i + suc n
+-- whether a byte ends a varint
+abbrev pub ends : ℕ → Bool
+ends b = ltb b 128
 
-after_behind : (i k : ℕ) → after i (behind k) ≡ after (i + 1) k
-after_behind i zero = refl
-after_behind i (suc k) = omega arith
+-- a varint's length, by the place of the byte that ends it
+abbrev pub length_to : Option ℕ → ℕ
+length_to None = 0
+length_to (Some last) = last + 1
 
-pub after_none : (k : ℕ) → k ≡ after 0 k
-after_none zero = refl
-after_none (suc k) = omega arith
-
-span_nil : (n : ℕ) → span_of n [] ≡ 0
+pub span_to_last : (k : ℕ) (s : List ℕ) → length_to (position ends (take k s)) ≡ span_of k s
 unfolding span_of
-span_nil zero = refl
-span_nil (suc n) = refl
+span_to_last zero s = refl
+span_to_last (suc k) [] = refl
+span_to_last (suc k) (b ∷ s) = go (ltb b 128) (span_to_last k s)
+  where
+    here : (l : ℕ) → length_to (cond (ltb 0 (suc l)) (Some 0) None) ≡ 1
+    here l = grind (arith, nat_tests)
 
--- at byte i of s, with i bytes passed
-module _ (s : List ℕ) (i : ℕ) (h : i < 10) (inv : span_of 10 s ≡ after i (span_of (10 - i) (drop i s))) where
-  fuel : 10 - i ≡ suc (10 - (i + 1))
-  fuel = omega arith
+    later : (p l : ℕ) → length_to (cond (ltb (1 + p) (suc l)) (Some (1 + p)) None) ≡ behind (length_to (cond (ltb p l) (Some p) None))
+    later p l = grind (arith, nat_tests)
 
-  pub cut_short : length s ≤ i → 0 ≡ span_of 10 s
-  cut_short g = sym (inv ∙ rw (drop_of_length-le s g, span_nil (10 - i)))
-
-  pub found : i < length s → get_or s i 0 < 128 → i + 1 ≡ span_of 10 s
-  unfolding span_of
-  found g k = sym (inv ∙ rw (fuel, drop-cons s i 0 g, lt-ltb (get_or s i 0) 128 k))
-
-  pub goes_on : i < length s → 128 ≤ get_or s i 0 → span_of 10 s ≡ after (i + 1) (span_of (10 - (i + 1)) (drop (i + 1) s))
-  unfolding span_of
-  goes_on g k = inv ∙ rw (fuel, drop-cons s i 0 g, le-ltb (get_or s i 0) 128 k, ← add-one i) (after_behind i (span_of (10 - (i + 1)) (drop (i + 1) s)))
-
-pub ten_passed : (s : List ℕ) (i : ℕ) → 10 ≤ i → span_of 10 s ≡ after i (span_of (10 - i) (drop i s)) → 0 ≡ span_of 10 s
-unfolding span_of
-ten_passed s i h inv = let e : 10 - i ≡ 0 = omega arith in sym (inv ∙ rw e)
+    go : (t : Bool) → length_to (position ends (take k s)) ≡ span_of k s
+        → length_to (cond (ltb (cond (not t) (1 + position_or_len ends (take k s)) 0) (suc (length (take k s)))) (Some (cond (not t) (1 + position_or_len ends (take k s)) 0)) None)
+        ≡ pick t 1 (behind (span_of k s))
+    go true e = here (length (take k s))
+    go false e = later (position_or_len ends (take k s)) (length (take k s)) ∙ ap behind e
 
 behind_le : (k n : ℕ) → k ≤ n → behind k ≤ suc n
 behind_le zero n h = omega arith
@@ -119,18 +110,18 @@ tenth s n i h m f g =
 
 -- ---- the whole varint
 
-valued_size : (k : ℕ) (s : List ℕ) (v n : ℕ) → valued k s ≡ Value v n → (n ≡ k) × (0 < k)
+valued_size : (k : ℕ) (s : List ℕ) (v n : ℕ) → valued k s ≡ Some (v, n) → (n ≡ k) × (0 < k)
 valued_size k s v n = go (eqb k 0) refl (ltb k 10) (leb (get_or s 9 0) 1)
   where
     go : (a : Bool) → eqb k 0 ≡ a → (b d : Bool)
-        → pick a Malformed (pick b (Value (value_of (take k s)) k) (pick d (Value (value_of (take k s)) k) Malformed)) ≡ Value v n → (n ≡ k) × (0 < k)
+        → pick {A = Option (ℕ × ℕ)} a None (pick b (Some (value_of (take k s), k)) (pick d (Some (value_of (take k s), k)) None)) ≡ Some (v, n) → (n ≡ k) × (0 < k)
     go true q b d e = let z : ◌≡◌ {A = ℕ} 0 1 = cc in absurd (omega arith)
-    go false q true d e = let z : n ≡ k = cc in (z, omega (arith, eqb-false k 0 q))
-    go false q false true e = let z : n ≡ k = cc in (z, omega (arith, eqb-false k 0 q))
+    go false q true d e = let z : n ≡ k = sym (some_pair_parts _ _ _ _ e).1 in (z, omega (arith, eqb-false k 0 q))
+    go false q false true e = let z : n ≡ k = sym (some_pair_parts _ _ _ _ e).1 in (z, omega (arith, eqb-false k 0 q))
     go false q false false e = let z : ◌≡◌ {A = ℕ} 0 1 = cc in absurd (omega arith)
 
 -- a varint has a byte at least, and ends within the bytes
-pub varint_size : (s : List ℕ) (v n : ℕ) → Value v n ≡ varint_of s → (0 < n) × (n ≤ length s) × (n ≤ 10)
+pub varint_size : (s : List ℕ) (v n : ℕ) → Some (v, n) ≡ varint_of s → (0 < n) × (n ≤ length s) × (n ≤ 10)
 unfolding varint_of
 varint_size s v n e =
     let q = valued_size (span_of 10 s) s v n (sym e) in

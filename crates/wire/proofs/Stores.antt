@@ -1,13 +1,15 @@
 -- Bytes stored from a place on, one after the other and one part after the other.
 -- Assumes nothing.
-use mathlib.Core.Path.{◌≡◌, refl, sym, ◌∙◌}
-use mathlib.Core.List.{List, [], ◌∷◌, ◌++◌}
-use Prim.Native.Nat.{ℕ, suc, ◌+◌, ◌/◌, ◌%◌, ◌<◌, ◌≤◌}
+use mathlib.Core.Path.{◌≡◌, refl, sym, ap, ◌∙◌}
+use mathlib.Core.List.{List, [], ◌∷◌, ◌++◌, append_assoc}
+use Prim.Native.Nat.{ℕ, suc, min, ◌+◌, ◌-◌, ◌/◌, ◌%◌, ◌<◌, ◌≤◌}
 use native.Mathlib.Nat.{add-zero}
 use native.Mathlib.Numerals.{add-one}
 use native.Mathlib.Omega.{arith}
-use lib.ListN.{length, get_or, drop, set, length-set, drop_of_length-le}
-use lib.Seq.{sets, sets-eq, set_out, drop-cons}
+use lib.ListN.{length, take, drop, set, length-set, length-take, drop_of_length-le, take-append-drop}
+use lib.Seq.{sets, sets-eq, set_out, length-sets}
+use mathlib.Core.Logic.{⊎_elim}
+use Rattle.std.proofs.lemmas.Bool.{cases_lt}
 use Rattle.wire.specs.Lists.{entry}
 
 -- nothing is stored past the end
@@ -29,27 +31,24 @@ sets_front o new h = let e : 0 + length new ≡ length new = omega arith in let 
 pub parts_stored : (o : List ℕ) (at : ℕ) (a b : List ℕ) {p : ℕ} {x y : List ℕ} → p ≡ at + length a → x ≡ sets o at a → y ≡ sets x p b → y ≡ sets o at (a ++ b)
 parts_stored o at a b c i j = j ∙ rw (i, c) (sym (sets_append o at a b))
 
--- ---- a copy, byte by byte: at byte i of s, to be stored at p
+-- as many bytes as there is room for; past them nothing is stored
+module _ (o a : List ℕ) (p : ℕ) {n : ℕ} (h : p ≤ length o) (e : n ≡ min (length a) (length o - p)) where
+  past : sets (sets o p (take n a)) (p + n) (drop n a) ≡ sets o p (take n a)
+  past =
+      ⊎_elim (λ (k : n < length a). sets_out (sets o p (take n a)) (p + n) (drop n a) (omega (arith, length-sets o p (take n a))))
+      (λ (k : length a ≤ n). ap (sets (sets o p (take n a)) (p + n)) (drop_of_length-le a k))
+      (cases_lt n (length a))
 
-pub copies : (o s : List ℕ) (p i : ℕ) → i < length s → sets (set o p (get_or s i 0)) (p + 1) (drop (i + 1) s) ≡ sets o p (drop i s)
-copies o s p i h =
-    let d : drop i s ≡ get_or s i 0 ∷ drop (i + 1) s = drop-cons s i 0 h ∙ rw (add-one i) in
-    rw (add-one p, d)
-
-pub copied : (o s : List ℕ) (p i : ℕ) → length s ≤ i → sets o p (drop i s) ≡ o
-copied o s p i h = rw (drop_of_length-le s h)
+  pub sets_within : take p o ++ (take n a ++ drop (p + n) o) ≡ sets o p a
+  sets_within =
+      let l : length (take n a) ≡ n = simp length-take (omega (arith)) in
+      let k : p + length (take n a) ≤ length o = omega (arith) in
+      let m : sets o p (take n a) ≡ take p o ++ (take n a ++ drop (p + n) o) = sets-eq (take n a) o p k ∙ ap (λ (i : ℕ). (take p o ++ take n a) ++ drop (p + i) o) l ∙ append_assoc (take p o) (take n a) (drop (p + n) o) in
+      sym m ∙ sym past ∙ ap (λ (i : ℕ). sets (sets o p (take n a)) (p + i) (drop n a)) (sym l)
+      ∙ sym (sets_append o p (take n a) (drop n a)) ∙ ap (sets o p) (take-append-drop n a)
 
 -- ---- an entry
 
 module _ (o a : List ℕ) (at : ℕ) where
   pub no_entry : length o ≤ at → o ≡ sets o at (entry a)
   no_entry h = sym (sets_out o at (entry a) h)
-
-  pub half_length : length o ≤ at + 1 → set o at (length a / 256 % 256) ≡ sets o at (entry a)
-  half_length h =
-      let e : at + 1 ≡ suc at = add-one at in
-      let l : length (set o at (length a / 256 % 256)) ≤ suc at = simp length-set (omega arith) in
-      sym (sets_out (set o at (length a / 256 % 256)) (suc at) ((length a % 256) ∷ a) l)
-
-  pub entry_stored : sets (set (set o at (length a / 256 % 256)) (at + 1) (length a % 256)) (at + 2) a ≡ sets o at (entry a)
-  entry_stored = let e : at + 1 ≡ suc at = omega arith in let d : at + 2 ≡ suc (suc at) = omega arith in rw (e, d)

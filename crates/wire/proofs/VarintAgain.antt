@@ -10,9 +10,9 @@ use lib.Dec.{ltb}
 use lib.ListN.{length, get_or, take}
 use lib.Seq.{take-append_seam}
 use borrow.Author.Tests.{lt-ltb, le-ltb, le-leb, ne_eqb, ltb-true, ltb-false}
+use Rattle.std.specs.Prelude.{Some, Option}
 use Rattle.prelude.specs.Choice.{pick}
 use Rattle.wire.specs.Varint.{value_of, behind, span_of, valued, varint_of, groups, encoded}
-use Rattle.wire.specs.declared.Varint.TheVariants.{Value}
 
 less : (n v k : ℕ) → v < 2 ^ (7 * suc n + k) → v / 128 < 2 ^ (7 * n + k)
 less n v k h =
@@ -87,20 +87,20 @@ groups_short (suc n) v = go (ltb v 128) refl (groups_short n (v / 128))
     go false e h = omega (arith, ltb-false v 128 e)
 
 -- reading what was written gives the number back, whatever follows
-pub read_written : (v : ℕ) (rest : List ℕ) → v < 2 ^ 64 → varint_of (encoded v ++ rest) ≡ Value v (length (encoded v))
+pub read_written : (v : ℕ) (rest : List ℕ) → v < 2 ^ 64 → varint_of (encoded v ++ rest) ≡ Some (v, length (encoded v))
 unfolding varint_of
 read_written v rest h = rw (span_again 9 10 v rest (omega arith) w) (go (ltb (length (encoded v)) 10) refl)
   where
     w : v < 2 ^ (7 * 9 + 7)
     w = omega arith
 
-    same : Value (value_of (take (length (encoded v)) (encoded v ++ rest))) (length (encoded v)) ≡ Value v (length (encoded v))
+    same : ◌≡◌ {A = Option (ℕ × ℕ)} (Some (value_of (take (length (encoded v)) (encoded v ++ rest)), length (encoded v))) (Some (v, length (encoded v)))
     same = rw (take-append_seam (encoded v) rest, number_again 9 v w)
 
     some : length (encoded v) ≡ 0 → ⊥
     some e = omega (arith, groups_some 9 v)
 
-    go : (t : Bool) → ltb (length (encoded v)) 10 ≡ t → valued (length (encoded v)) (encoded v ++ rest) ≡ Value v (length (encoded v))
+    go : (t : Bool) → ltb (length (encoded v)) 10 ≡ t → valued (length (encoded v)) (encoded v ++ rest) ≡ Some (v, length (encoded v))
     go true e = rw (ne_eqb (length (encoded v)) 0 some, e) same
     go false e =
         let l : length (encoded v) ≡ 10 = omega (arith, ltb-false (length (encoded v)) 10 e, groups_most 9 v) in

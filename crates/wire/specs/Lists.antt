@@ -1,8 +1,6 @@
 -- Address lists (RULES.md, section 5).
-use Rattle.std.specs.Prelude.{ℕ, zero, suc, ◌+◌, ◌*◌, ◌-◌, ◌/◌, ◌%◌, Bool, true, false, List, [], ◌∷◌, ◌++◌, eqb, leb, length, get_or, take, drop}
+use Rattle.std.specs.Prelude.{ℕ, zero, suc, Option, Some, None, ◌+◌, ◌*◌, ◌-◌, ◌/◌, ◌%◌, Bool, true, false, List, [], ◌∷◌, ◌++◌, eqb, leb, length, get_or, take, drop}
 use Rattle.prelude.specs.Choice.{pick, both}
-use Rattle.wire.specs.declared.Entry.{Entry}
-use Rattle.wire.specs.declared.Entry.TheVariants.{Address, Broken, End}
 
 -- the length that stands in front: two bytes, the higher first
 abbrev pub size_at : List ℕ → ℕ
@@ -37,8 +35,6 @@ unfoldable pub listed : List (List ℕ) → List ℕ
 listed [] = []
 listed (a ∷ xs) = entry a ++ listed xs
 
--- what stands at a place of a list: an address from start to end, a break, or the end
-unfoldable pub entry_at : List ℕ → ℕ → Entry
-entry_at s at =
-    pick (leb (length s) at) End
-    (pick (opens (drop at s)) (Address (at + 2) (at + 2 + size_at (drop at s))) Broken)
+-- the address that stands first in a list, and what follows it; nothing at the end or a break
+abbrev pub first_entry : List ℕ → Option (List ℕ × List ℕ)
+first_entry s = pick (opens s) (Some (take (size_at s) (drop 2 s), drop (2 + size_at s) s)) None

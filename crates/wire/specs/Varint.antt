@@ -1,8 +1,6 @@
 -- Base 128 varints (RULES.md, section 2).
-use Rattle.std.specs.Prelude.{ℕ, zero, suc, ◌+◌, ◌*◌, ◌/◌, ◌%◌, List, [], ◌∷◌, get_or, take, ltb, leb, eqb}
+use Rattle.std.specs.Prelude.{ℕ, zero, suc, ◌+◌, ◌*◌, ◌/◌, ◌%◌, List, [], ◌∷◌, get_or, take, ltb, leb, eqb, None, Option, Some}
 use Rattle.prelude.specs.Choice.{pick}
-use Rattle.wire.specs.declared.Varint.{Varint}
-use Rattle.wire.specs.declared.Varint.TheVariants.{Value, Malformed}
 
 -- the number that bytes stand for: seven bits of each, the least significant group first
 unfoldable pub value_of : List ℕ → ℕ
@@ -21,13 +19,13 @@ span_of (suc n) [] = 0
 span_of (suc n) (b ∷ bs) = pick (ltb b 128) 1 (behind (span_of n bs))
 
 -- the varint of the first n bytes: at most ten, the tenth at most 1
-abbrev pub valued : ℕ → List ℕ → Varint
+abbrev pub valued : ℕ → List ℕ → Option (ℕ × ℕ)
 valued n s =
-    pick (eqb n 0) Malformed
-    (pick (ltb n 10) (Value (value_of (take n s)) n) (pick (leb (get_or s 9 0) 1) (Value (value_of (take n s)) n) Malformed))
+    pick (eqb n 0) None
+    (pick (ltb n 10) (Some (value_of (take n s), n)) (pick (leb (get_or s 9 0) 1) (Some (value_of (take n s), n)) None))
 
 -- the varint that stands first: its value and its length
-unfoldable pub varint_of : List ℕ → Varint
+unfoldable pub varint_of : List ℕ → Option (ℕ × ℕ)
 varint_of s = valued (span_of 10 s) s
 
 -- a number's groups, in at most n + 1 bytes

@@ -1,35 +1,25 @@
 // Bytes on the wire: protobuf's varints, the frame around a message, and lists of addresses as the host hands them over.
 #![tactic(auto)]
 
-ghost use Rattle.std.specs.Prelude.{◌≡◌, false, ◌+◌, ◌<◌, ◌≤◌, length, get_or, take};
+ghost use Rattle.std.specs.Prelude.{◌≡◌, ℕ, ◌+◌, ◌<◌, ◌≤◌, List, length, get_or, take, option_map};
+ghost use Rattle.std.specs.Iterator.{YieldsFirstRef, item_count};
 ghost use Rattle.std.proofs.lemmas.List.Edits.{sets};
 ghost use Rattle.wire.specs.Varint.{span_of, value_of, varint_of, encoded};
 ghost use Rattle.wire.specs.Frame.{max_message_size, reached, frame_from, frame_of};
-ghost use Rattle.wire.specs.Lists.{entry_at, broken, entry};
+ghost use Rattle.wire.specs.Lists.{first_entry, entries, broken, entry};
+
+use std::marker::Model;
 
 // ---- Varints
-
-#[derive(Clone, Copy)]
-pub enum Varint {
-    Value { value: u64, next: usize },
-    Malformed,
-}
 
 // How many bytes the varint has that stands first, at most ten; 0 where none ends.
 fn span(s: &[u8]) -> usize
     ensures { result ≡ span_of 10 s.now }
 {
-    let mut i: usize = 0;
-    while i < 10 {
-        if s.len() <= i {
-            return 0;
-        }
-        if s[i] < 128 {
-            return i + 1;
-        }
-        i += 1;
+    match s.iter().take(10).position(|b| *b < 128) {
+        Some(last) => last + 1,
+        None => 0,
     }
-    0
 }
 
 // The number of the first n bytes, from the last group to the first.
@@ -38,44 +28,28 @@ fn value(s: &[u8], n: usize) -> u64
     ensures { result ≡ value_of (take n s.now) }
 {
     let mut v: u64 = 0;
-    let mut i = n;
-    while 0 < i {
-        i -= 1;
-        v = v * 128 + (s[i] % 128) as u64;
+    for i in (0..n).rev() {
+        v = v * 128 + u64::from(s[i] % 128);
     }
     v
 }
 
 // The varint that stands first.
-pub fn first_varint(s: &[u8]) -> Varint
+pub fn first_varint(s: &[u8]) -> Option<(u64, usize)>
     ensures { result ≡ varint_of s.now }
 {
     let n = span(s);
-    if n == 0 {
-        return Varint::Malformed;
+    if n == 0 || n == 10 && 1 < s[9] {
+        return None;
     }
-    if n < 10 {
-        let v = value(s, n);
-        return Varint::Value { value: v, next: n };
-    }
-    if 1 < s[9] {
-        return Varint::Malformed;
-    }
-    let v = value(s, n);
-    Varint::Value { value: v, next: n }
+    Some((value(s, n), n))
 }
 
-// How many bytes the shortest form has.
+// How many bytes the shortest form has: one for each seven bits.
 pub fn varint_len(value: u64) -> usize
     ensures { result ≡ length (encoded value) }
 {
-    let mut left = value;
-    let mut n: usize = 1;
-    while 128 <= left {
-        left = left / 128;
-        n += 1;
-    }
-    n
+    value.max(1).ilog2() as usize / 7 + 1
 }
 
 // Stores the shortest form at a place; what would stand past the end is left out.
@@ -83,19 +57,14 @@ pub fn put_varint(value: u64, out: &mut [u8], at: usize)
     ensures { out.new ≡ sets out.old at (encoded value) }
 {
     let mut v = value;
-    let mut p = at;
-    while 128 <= v {
-        if out.len() <= p {
+    for p in at..out.len() {
+        if v < 128 {
+            out[p] = v as u8;
             return;
         }
         out[p] = 128 + (v % 128) as u8;
-        v = v / 128;
-        p += 1;
+        v /= 128;
     }
-    if out.len() <= p {
-        return;
-    }
-    out[p] = v as u8;
 }
 
 // ---- Frames
@@ -119,10 +88,7 @@ fn message_behind(start: usize, len: usize, count: usize) -> Frame
     ensures { result ≡ reached start len count }
 {
     if start + len <= count {
-        Frame::Whole {
-            start: start,
-            len: len,
-        }
+        Frame::Whole { start, len }
     } else {
         Frame::More
     }
@@ -132,106 +98,91 @@ fn message_behind(start: usize, len: usize, count: usize) -> Frame
 pub fn frame_from(first: u8, second: u8, count: usize) -> Frame
     ensures { result ≡ frame_from first second count }
 {
-    if count == 0 {
-        return Frame::More;
+    match (count, first, second) {
+        (0, _, _) => Frame::More,
+        (_, 0..=127, _) => message_behind(1, usize::from(first), count),
+        (1, _, _) => Frame::More,
+        (_, _, 1..=127) => {
+            let len = usize::from(second) * 128 + usize::from(first % 128);
+            if MAX_MESSAGE_SIZE < len {
+                return Frame::Broken;
+            }
+            message_behind(2, len, count)
+        }
+        _ => Frame::Broken,
     }
-    let b = first as usize;
-    if b < 128 {
-        return message_behind(1, b, count);
-    }
-    if count == 1 {
-        return Frame::More;
-    }
-    let c = second as usize;
-    if c == 0 {
-        return Frame::Broken;
-    }
-    if 127 < c {
-        return Frame::Broken;
-    }
-    let len = c * 128 + b % 128;
-    if MAX_MESSAGE_SIZE < len {
-        return Frame::Broken;
-    }
-    message_behind(2, len, count)
 }
 
 // The frame whose bytes so far are s.
 fn frame_so_far(s: &[u8]) -> Frame
     ensures { result ≡ frame_of s.now }
 {
-    let n = s.len();
-    if n == 0 {
-        return Frame::More;
+    match s {
+        [] => Frame::More,
+        [first] => frame_from(*first, 0, 1),
+        [first, second, ..] => frame_from(*first, *second, s.len()),
     }
-    if n == 1 {
-        return frame_from(s[0], 0, 1);
-    }
-    frame_from(s[0], s[1], n)
 }
 
 // The frame whose first count bytes stand in the buffer.
 pub fn decode_frame(buffer: &[u8], count: usize) -> Frame
     ensures { result ≡ frame_of (take count buffer.now) }
 {
-    if count <= buffer.len() {
-        frame_so_far(&buffer[..count])
-    } else {
-        frame_so_far(buffer)
-    }
+    frame_so_far(&buffer[..count.min(buffer.len())])
 }
 
 // ---- Address lists
 
-// What stands at a place of an address list.
-#[derive(Clone, Copy)]
-pub enum Entry {
-    Address { start: usize, end: usize },
-    Broken,
-    End,
+// The address that stands first in a list, and what follows it; nothing at the end or a break.
+fn first_entry(list: &[u8]) -> Option<(&[u8], &[u8])>
+    ensures { option_map (λ p. (p.0.now, p.1.now)) result ≡ first_entry list.now }
+{
+    let (size, rest) = list.split_first_chunk::<2>()?;
+    rest.split_at_checked(usize::from(u16::from_be_bytes(*size)))
 }
 
-fn wide(x: u8) -> usize
-    ensures { (result ≡ x) × (result < 256) }
-{
-    x as usize
+// The addresses of a list, in order, up to its end or break.
+#[derive(Drop)]
+pub struct EntryIter<'a> {
+    rest: &'a [u8],
 }
 
-pub fn entry_at(list: &[u8], at: usize) -> Entry
-    ensures { result ≡ entry_at list.now at }
+impl<'a> Model for EntryIter<'a> {
+    ghost Value = { List (List ℕ) };
+
+    ghost view = { λ s. entries s.rest.now };
+}
+
+impl<'a> Iterator for EntryIter<'a> {
+    type Item = &'a [u8];
+
+    ghost next_gives = { YieldsFirstRef (λ left. left) };
+
+    ghost remaining = { item_count (λ left. left) };
+
+    fn next(&mut self) -> Option<&'a [u8]> {
+        let (address, rest) = first_entry(self.rest)?;
+        self.rest = rest;
+        Some(address)
+    }
+}
+
+pub fn entries(list: &[u8]) -> EntryIter<'_>
+    ensures { result ≡ entries list.now }
 {
-    if list.len() <= at {
-        return Entry::End;
-    }
-    let left = list.len() - at;
-    if left < 2 {
-        return Entry::Broken;
-    }
-    let n = wide(list[at]) * 256 + wide(list[at + 1]);
-    if left - 2 < n {
-        return Entry::Broken;
-    }
-    Entry::Address {
-        start: at + 2,
-        end: at + 2 + n,
-    }
+    EntryIter { rest: list }
 }
 
 // Whether a list stops in the middle of a length or of an address.
 pub fn is_broken(list: &[u8]) -> bool
     ensures { result ≡ broken list.now }
 {
-    let mut at: usize = 0;
-    loop {
-        let e = entry_at(list, at);
-        match e {
-            Entry::End => return false,
-            Entry::Broken => return true,
-            Entry::Address { start: _, end } => {
-                at = end;
-            }
-        }
+    // A while let: what is left behind the last address decides.
+    let mut rest = list;
+    while let Some((_, behind)) = first_entry(rest) {
+        rest = behind;
     }
+    !rest.is_empty()
 }
 
 // ---- Bytes into a buffer
@@ -240,15 +191,9 @@ pub fn is_broken(list: &[u8]) -> bool
 pub fn put_bytes(src: &[u8], out: &mut [u8], at: usize)
     ensures { out.new ≡ sets out.old at src.now }
 {
-    let mut from: usize = 0;
-    let mut to = at;
-    while from < src.len() {
-        if out.len() <= to {
-            return;
-        }
-        out[to] = src[from];
-        from += 1;
-        to += 1;
+    if at < out.len() {
+        let n = src.len().min(out.len() - at);
+        out[at..at + n].copy_from_slice(&src[..n]);
     }
 }
 
@@ -256,14 +201,9 @@ pub fn put_bytes(src: &[u8], out: &mut [u8], at: usize)
 pub fn put_entry(address: &[u8], out: &mut [u8], at: usize)
     ensures { out.new ≡ sets out.old at (entry address.now) }
 {
-    let n = address.len();
-    if out.len() <= at {
-        return;
+    if at < out.len() {
+        let size = (address.len() % 0x1_0000) as u16;
+        put_bytes(&size.to_be_bytes(), out, at);
+        put_bytes(address, out, at + 2);
     }
-    out[at] = (n / 256 % 256) as u8;
-    if out.len() <= at + 1 {
-        return;
-    }
-    out[at + 1] = (n % 256) as u8;
-    put_bytes(address, out, at + 2);
 }

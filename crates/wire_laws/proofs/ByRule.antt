@@ -9,11 +9,11 @@ use lib.Dec.{ltb, leb, eqb}
 use lib.ListN.{length, get_or, take, drop, length-take, take-append-drop, get_or-append}
 use lib.Seq.{take-append_seam, get_or-take}
 use borrow.Author.Tests.{lt-ltb, le-ltb, le-leb, ne_eqb, ltb-true, ltb-false, leb-true, eqb-false}
+use Rattle.std.specs.Prelude.{None, Some, Option}
 use Rattle.prelude.specs.Choice.{pick}
 use Rattle.wire.specs.Varint.{value_of, behind, span_of, valued, varint_of}
 use Rattle.wire_laws.specs.Bytes.{Ends, IsVarint, sum}
 use Rattle.wire_laws.specs.Bytes.Ends.{last, more}
-use Rattle.wire.specs.declared.Varint.TheVariants.{Value, Malformed}
 use Rattle.wire.proofs.Spans.{span_le}
 
 -- ---- the bytes in front
@@ -57,14 +57,14 @@ sum_by w (b ∷ bs) =
 
 -- ---- the varint
 
-read_at : (bs rest : List ℕ) → IsVarint bs → valued (length bs) (bs ++ rest) ≡ Value (value_of bs) (length bs)
+read_at : (bs rest : List ℕ) → IsVarint bs → valued (length bs) (bs ++ rest) ≡ Some (value_of bs, length bs)
 read_at bs rest v = rw (ne_eqb (length bs) 0 none, take-append_seam bs rest) (go (ltb (length bs) 10) refl)
   where
     none : length bs ≡ 0 → ⊥
     none z = omega (arith, some bs v.ends)
 
     go : (t : Bool) → ltb (length bs) 10 ≡ t
-        → pick t (Value (value_of bs) (length bs)) (pick (leb (get_or (bs ++ rest) 9 0) 1) (Value (value_of bs) (length bs)) Malformed) ≡ Value (value_of bs) (length bs)
+        → pick {A = Option (ℕ × ℕ)} t (Some (value_of bs, length bs)) (pick (leb (get_or (bs ++ rest) 9 0) 1) (Some (value_of bs, length bs)) None) ≡ Some (value_of bs, length bs)
     go true e = refl
     go false e =
         let l = v.ten in
@@ -72,13 +72,13 @@ read_at bs rest v = rw (ne_eqb (length bs) 0 none, take-append_seam bs rest) (go
         let m : 9 < length bs = omega arith in
         rw (get_or-append bs rest 0 9 m, le-leb (get_or bs 9 0) 1 (v.tenth z))
 
-pub read_by : (bs rest : List ℕ) → IsVarint bs → varint_of (bs ++ rest) ≡ Value (sum 1 bs) (length bs)
+pub read_by : (bs rest : List ℕ) → IsVarint bs → varint_of (bs ++ rest) ≡ Some (sum 1 bs, length bs)
 unfolding varint_of
 read_by bs rest v =
     let n : value_of bs ≡ sum 1 bs = sym (sum_by 1 bs ∙ omega arith) in
     rw (span_by 10 bs rest v.ends v.ten) (read_at bs rest v ∙ rw n)
 
-pub malformed_by : (s : List ℕ) → ((bs rest : List ℕ) → IsVarint bs → s ≡ bs ++ rest → ⊥) → varint_of s ≡ Malformed
+pub malformed_by : (s : List ℕ) → ((bs rest : List ℕ) → IsVarint bs → s ≡ bs ++ rest → ⊥) → varint_of s ≡ None
 unfolding varint_of
 malformed_by s f = go (eqb n 0) refl (ltb n 10) refl (leb (get_or s 9 0) 1) refl
   where
@@ -96,7 +96,7 @@ malformed_by s f = go (eqb n 0) refl (ltb n 10) refl (leb (get_or s 9 0) 1) refl
         (sym (take-append-drop n s))
 
     go : (a : Bool) → eqb n 0 ≡ a → (b : Bool) → ltb n 10 ≡ b → (c : Bool) → leb (get_or s 9 0) 1 ≡ c
-        → pick a Malformed (pick b (Value (value_of (take n s)) n) (pick c (Value (value_of (take n s)) n) Malformed)) ≡ Malformed
+        → pick {A = Option (ℕ × ℕ)} a None (pick b (Some (value_of (take n s), n)) (pick c (Some (value_of (take n s), n)) None)) ≡ None
     go true e b g c h = refl
     go false e true g c h = absurd (never (omega (arith, eqb-false n 0 e)) (λ z. absurd (omega (arith, ltb-true n 10 g))))
     go false e false g true h = absurd (never (omega (arith, eqb-false n 0 e)) (λ z. leb-true (get_or s 9 0) 1 h))

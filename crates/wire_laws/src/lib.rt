@@ -1,23 +1,22 @@
 // Laws of the wire: what is written is read, and what is read is what section 2, 4 and 5 of docs/RULES.md say of the bytes.
 #![tactic(auto)]
 
-ghost use Rattle.std.specs.Prelude.{◌≡◌, false, List, [], ◌∷◌, ◌++◌, ℕ, ◌+◌, ◌<◌, ◌≤◌, ◌^◌, length, get_or, take};
+ghost use Rattle.std.specs.Prelude.{◌≡◌, false, List, [], ◌∷◌, ◌++◌, ℕ, ◌+◌, ◌<◌, ◌≤◌, ◌^◌, length, get_or, take, None, Some};
 ghost use Rattle.wire.specs.Varint.{varint_of, encoded};
 ghost use Rattle.wire_laws.specs.Bytes.{IsVarint, sum};
 ghost use Rattle.wire.specs.Frame.{max_message_size, frame_of, framed};
-ghost use Rattle.wire.specs.declared.Varint.TheVariants as Varint;
 ghost use Rattle.wire.specs.declared.Frame.TheVariants as Frame;
 ghost use Rattle.wire.specs.Lists.{entries, broken, listed};
 
 // A varint in front is read as the number that its bytes say; where none stands in front, what is read is malformed.
 pub fn varint_by_the_rule()
-    ensures read { (bs rest : List ℕ) → IsVarint bs → varint_of (bs ++ rest) ≡ Varint.Value (sum 1 bs) (length bs) }
-    ensures malformed { (s : List ℕ) → ((bs rest : List ℕ) → IsVarint bs → s ≡ bs ++ rest → ⊥) → varint_of s ≡ Varint.Malformed }
+    ensures read { (bs rest : List ℕ) → IsVarint bs → varint_of (bs ++ rest) ≡ Some (sum 1 bs, length bs) }
+    ensures malformed { (s : List ℕ) → ((bs rest : List ℕ) → IsVarint bs → s ≡ bs ++ rest → ⊥) → varint_of s ≡ None }
 {}
 
 // What put_varint stores is read again, whatever follows.
 pub fn varint_read_back()
-    ensures { (v : ℕ) (rest : List ℕ) → v < 2 ^ 64 → varint_of (encoded v ++ rest) ≡ Varint.Value v (length (encoded v)) }
+    ensures { (v : ℕ) (rest : List ℕ) → v < 2 ^ 64 → varint_of (encoded v ++ rest) ≡ Some (v, length (encoded v)) }
 {}
 
 // A frame that is whole stays whole, whatever stands behind it.

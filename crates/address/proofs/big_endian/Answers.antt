@@ -1,33 +1,21 @@
-use mathlib.Core.Path.{◌≡◌, refl, sym, subst, ◌∙◌}
-use Prim.Native.Nat.{ℕ, ◌<◌, ◌*◌, ◌^◌}
+use mathlib.Core.Path.{sym, ◌∙◌}
+use Prim.Native.Nat.{◌<◌}
 use native.Mathlib.Omega.{arith}
-use lib.ListN.{length}
 use Rattle.address.proofs.Digits.{digit_step, digit_end, digit_room, digit_fits}
 use Rattle.address.proofs.big_endian.Goals as goal
 
-pub loop-i-init : goal.loop-i-init
-loop-i-init c = (omega arith, (omega arith, refl))
-
 pub overflow_mul-v : goal.overflow_mul-v
-overflow_mul-v c = omega (arith, digit_fits c.loop-i.v 0 c.loop-i.i c.loop-i.invariant.1.0 (omega arith) (omega arith))
-
-pub overflow_cast-v : goal.overflow_cast-v
-overflow_cast-v c = omega (arith, c.shared_slice_known-1.given c.loop-i.i)
+overflow_mul-v c = omega (arith, digit_fits c.loop-b.v 0 c.loop-b.b-index c.loop-b.invariant.0 (omega arith) (omega arith))
 
 pub overflow_add-v : goal.overflow_add-v
 overflow_add-v c =
-    let l = c.loop-i in
-    let b = c.shared_slice_known-1.given l.i in
-    record { fits = digit_fits l.v _ l.i l.invariant.1.0 (omega (arith, b)) (omega arith) }
+    let b : c.from.result < 256 = omega (arith, c.type_inv.s c.loop-b.b-index) in
+    omega (arith, digit_fits c.loop-b.v c.from.result c.loop-b.b-index c.loop-b.invariant.0 b (omega arith))
 
-pub loop-i-preserved : goal.loop-i-preserved
-loop-i-preserved c =
-    let l = c.loop-i in
-    let b = c.shared_slice_known-1.given l.i in
-    (omega arith, (digit_room l.v _ l.i l.invariant.1.0 (omega (arith, b)), l.invariant.1.1 ∙ digit_step l.v _ l.i (omega arith)))
+pub loop-b-preserved : goal.loop-b-preserved
+loop-b-preserved c =
+    let b : c.from.result < 256 = omega (arith, c.type_inv.s c.loop-b.b-index) in
+    (digit_room c.loop-b.v _ c.loop-b.b-index c.loop-b.invariant.0 b, c.loop-b.invariant.1 ∙ rw c.from.ensures (digit_step c.loop-b.v _ c.loop-b.b-index c.loop-b-test.true))
 
-pub returns : goal.returns
-returns c =
-    let l = c.loop-i in
-    let e : l.i ≡ length c.args.s.now = omega arith in
-    record { value = sym (l.invariant.1.1 ∙ digit_end l.v _ l.i c.loop-i-test.false); small = subst (λ (n : ℕ). l.v < 2 ^ (8 * n)) e l.invariant.1.0 }
+pub returns-clause-value : goal.returns-clause-value
+returns-clause-value c = sym (c.loop-b.invariant.1 ∙ digit_end c.loop-b.v _ c.loop-b.b-index (omega arith))

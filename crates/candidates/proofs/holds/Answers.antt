@@ -1,33 +1,13 @@
--- `candidates::holds` meets its contract: the invariant: the list holds the address just where what is left of it does.
-use mathlib.Core.Path.{refl}
-use native.Mathlib.Omega.{arith}
-use Rattle.wire.proofs.Entries.{stands, entries_end, entries_break}
-use Rattle.candidates.proofs.Loops.{holds_on, holds_here, holds_not}
+-- Whether an entry passes `==`, by what `any` ran over.
+use Rattle.std.proofs.Common.{rules, ◌∙◌}
+use Rattle.std.proofs.lemmas.Iterator.Consumers.{YieldsList-from_rest}
+use Rattle.std.proofs.lemmas.Iterator.Search.{any_from_yields_List}
+use Rattle.wire.specs.Lists.{entries}
+use Rattle.candidates.specs.Entries.{same_bytes}
+use Rattle.candidates.proofs.Answers.{same_is, contains_is}
 use Rattle.candidates.proofs.holds.Goals as goal
 
-pub loop-start-init : goal.loop-start-init
-loop-start-init c = (omega arith, refl)
-
-pub returns-in-End : goal.returns-in-End
-returns-in-End c = holds_not c.args.a.now c.args.list.now c.loop-start.at c.loop-start.invariant.1 (entries_end _ _ c.in-End.is c.entry_at-e.ensures)
-
-pub returns-in-Broken : goal.returns-in-Broken
-returns-in-Broken c = holds_not c.args.a.now c.args.list.now c.loop-start.at c.loop-start.invariant.1 (entries_break _ _ c.in-Broken.is c.entry_at-e.ensures)
-
-pub slice_bounds-same_bytes-count : goal.slice_bounds-same_bytes-count
-slice_bounds-same_bytes-count c = omega (arith, (stands c.args.list.now c.loop-start.at c.in-Address.is c.entry_at-e.ensures))
-
-pub slice_bounds-same_bytes-start : goal.slice_bounds-same_bytes-start
-slice_bounds-same_bytes-start c = omega (arith, (stands c.args.list.now c.loop-start.at c.in-Address.is c.entry_at-e.ensures))
-
-pub slice_bounds-same_bytes-end : goal.slice_bounds-same_bytes-end
-slice_bounds-same_bytes-end c = omega (arith, (stands c.args.list.now c.loop-start.at c.in-Address.is c.entry_at-e.ensures))
-
-pub returns-then-same_bytes : goal.returns-then-same_bytes
-returns-then-same_bytes c = holds_here c.args.a.now c.args.list.now c.loop-start.at (stands c.args.list.now c.loop-start.at c.in-Address.is c.entry_at-e.ensures) c.loop-start.invariant.1 c.same_bytes.ensures c.if-same_bytes.true
-
-pub loop-start-smaller : goal.loop-start-smaller
-loop-start-smaller c = omega (arith, (stands c.args.list.now c.loop-start.at c.in-Address.is c.entry_at-e.ensures))
-
-pub loop-start-preserved : goal.loop-start-preserved
-loop-start-preserved c = ((stands c.args.list.now c.loop-start.at c.in-Address.is c.entry_at-e.ensures).inside, holds_on c.args.a.now c.args.list.now c.loop-start.at (stands c.args.list.now c.loop-start.at c.in-Address.is c.entry_at-e.ensures) c.loop-start.invariant.1 c.same_bytes.ensures c.if-same_bytes.false)
+pub returns : goal.returns
+returns c =
+    any_from_yields_List (same_bytes c.args.a.now) _ _ _ c.any.ensures.ran (YieldsList-from_rest (entries c.args.list.now) c.entries.ensures) (λ x b q k. search (rules, same_is))
+    ∙ contains_is c.args.a.now (entries c.args.list.now)

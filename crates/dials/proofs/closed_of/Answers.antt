@@ -1,71 +1,27 @@
-use mathlib.Core.Path.{◌≡◌, refl, ap, sym, ◌∙◌}
+use mathlib.Core.Path.{refl, ap, sym, ◌∙◌}
 use native.Mathlib.Omega.{arith}
-use lib.ListN.{length, get_or}
+use lib.ListN.{get_or}
 use Rattle.kinds.specs.declared.Row.{Row}
-use Rattle.dials.specs.declared.Connections.{Connections}
-use Rattle.dials.specs.Dials.{connections_of, fate_at, no_first}
-use Rattle.dials.proofs.Gathered.{none_yet, gives, gives_none, all_given, filled_connections}
+use Rattle.rows.specs.declared.Table.TheVariants.{Dials}
+use Rattle.rows.specs.Words.{rows_of, no_row}
+use Rattle.dials.specs.Dials.{connections_of, fate_at, no_first, closed_by}
+use Rattle.dials.proofs.Gathered.{none_closed, none_yet, gives, gives_none, all_given, filled_connections}
 use Rattle.dials.proofs.closed_of.Goals as goal
+use Rattle.dials.proofs.closed_of.Goals.{in-Closes, in_default}
 
 pub loop-i-init : goal.loop-i-init
 unfolding connections_of
-loop-i-init c = (omega arith, none_yet (ap (λ (t : Connections). t.connections) c.no_connections-none.ensures))
-
-pub offset_bounds-firsts-i : goal.offset_bounds-firsts-i
-offset_bounds-firsts-i c = omega arith
-
-pub bounds-firsts-i : goal.bounds-firsts-i
-bounds-firsts-i c = omega arith
-
-pub overflow_add-i : goal.overflow_add-i
-overflow_add-i c = omega arith
-
-pub loop-i-smaller-in-Other : goal.loop-i-smaller-in-Other
-loop-i-smaller-in-Other c = omega arith
-
-pub loop-i-preserved-in-Other : goal.loop-i-preserved-in-Other
-loop-i-preserved-in-Other c =
-    let f64 : length c.args.firsts.rows ≡ 64 = omega arith in
-    let f = sym (c.fate_at-fate.ensures ∙ ap (λ (r : Row). fate_at c.args.id r (get_or c.args.firsts.rows c.loop-i.i no_first)) c.row_at-row.ensures) in
-    (omega arith, gives_none c.loop-i.invariant.1 (omega arith) (omega arith) (simp (f, c.in-Other.is)))
-
-pub loop-i-smaller-in-Stays : goal.loop-i-smaller-in-Stays
-loop-i-smaller-in-Stays c = omega arith
-
-pub loop-i-preserved-in-Stays : goal.loop-i-preserved-in-Stays
-loop-i-preserved-in-Stays c =
-    let f64 : length c.args.firsts.rows ≡ 64 = omega arith in
-    let f = sym (c.fate_at-fate.ensures ∙ ap (λ (r : Row). fate_at c.args.id r (get_or c.args.firsts.rows c.loop-i.i no_first)) c.row_at-row.ensures) in
-    (omega arith, gives_none c.loop-i.invariant.1 (omega arith) (omega arith) (simp (f, c.in-Stays.is)))
-
-pub loop-i-smaller-in-Goes : goal.loop-i-smaller-in-Goes
-loop-i-smaller-in-Goes c = omega arith
-
-pub loop-i-preserved-in-Goes : goal.loop-i-preserved-in-Goes
-loop-i-preserved-in-Goes c =
-    let f64 : length c.args.firsts.rows ≡ 64 = omega arith in
-    let f = sym (c.fate_at-fate.ensures ∙ ap (λ (r : Row). fate_at c.args.id r (get_or c.args.firsts.rows c.loop-i.i no_first)) c.row_at-row.ensures) in
-    (omega arith, gives_none c.loop-i.invariant.1 (omega arith) (omega arith) (simp (f, c.in-Goes.is)))
-
-pub offset_bounds-connections-m : goal.offset_bounds-connections-m
-offset_bounds-connections-m c = omega arith
-
-pub bounds-connections-m : goal.bounds-connections-m
-bounds-connections-m c = omega arith
-
-pub overflow_add-m : goal.overflow_add-m
-overflow_add-m c = omega arith
-
-pub loop-i-smaller : goal.loop-i-smaller
-loop-i-smaller c = omega arith
+loop-i-init c = rw c.no_connections-close.ensures (none_yet refl)
 
 pub loop-i-preserved : goal.loop-i-preserved
 loop-i-preserved c =
-    let f64 : length c.args.firsts.rows ≡ 64 = omega arith in
-    let f = sym (c.fate_at-fate.ensures ∙ ap (λ (r : Row). fate_at c.args.id r (get_or c.args.firsts.rows c.loop-i.i no_first)) c.row_at-row.ensures) in
-    (omega arith, gives c.loop-i.invariant.1 (omega arith) (omega arith) (simp (f, c.in-Closes.is) (rw c.row_at-row.ensures refl)) (omega arith))
+    let fs = c.args.firsts.rows in
+    let r = get_or (rows_of Dials c.args.l.now) c.loop-i.i no_row in
+    let f = sym (c.fate_at.ensures ∙ ap (λ (r : Row). fate_at c.args.id r (get_or fs c.loop-i.i no_first)) c.row_at-row.ensures) in
+    elim c.match-fate_at.branch [
+      | in-Closes w ↦ rw (w.close-is, c.row_at-row.ensures) (gives c.loop-i.invariant (omega arith) (omega arith) (ap (closed_by r) (f ∙ w.in-Closes.is)) (omega arith))
+      | in_default w ↦ rw w.close-is (gives_none c.loop-i.invariant (omega arith) (omega arith) (ap (closed_by r) f ∙ none_closed r c.fate_at.result w.in_default.not-Closes))
+    ]
 
 pub returns : goal.returns
-returns c =
-    let f64 : length c.args.firsts.rows ≡ 64 = omega arith in
-    filled_connections (all_given c.loop-i.invariant.1 (omega arith) (omega arith))
+returns c = filled_connections (all_given c.loop-i.invariant (omega arith) (omega arith))

@@ -1,4 +1,3 @@
-use Prim.Native.Nat.{◌≤◌, ◌-◌}
 use Rattle.rows.specs.declared.Table.TheVariants.{Dials}
 use Rattle.rows.specs.Words.{rows_of}
 use Rattle.dials.specs.Dials.{closed_of}
@@ -6,7 +5,4 @@ use Rattle.dials.proofs.Gathered.{Gathered, no_connection}
 use Rattle.dials.proofs.closed_of.Given as goal
 
 abbrev pub invariant-loop-i : goal.invariant-loop-i
-invariant-loop-i l = (l.i ≤ l.n) × Gathered no_connection (closed_of l.id) (rows_of Dials l.l) l.firsts l.i l.connections l.m
-
-abbrev pub decreases-loop-i : goal.decreases-loop-i
-decreases-loop-i l = l.n - l.i
+invariant-loop-i l = Gathered no_connection (closed_of l.id) (rows_of Dials l.l) l.firsts l.i l.close.connections l.close.count

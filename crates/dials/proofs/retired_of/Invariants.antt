@@ -1,4 +1,3 @@
-use Prim.Native.Nat.{◌≤◌, ◌-◌}
 use Rattle.rows.specs.declared.Table.TheVariants.{Dials}
 use Rattle.rows.specs.Words.{rows_of}
 use Rattle.dials.specs.Dials.{retired_of}
@@ -6,7 +5,4 @@ use Rattle.dials.proofs.Gathered.{Gathered, no_token}
 use Rattle.dials.proofs.retired_of.Given as goal
 
 abbrev pub invariant-loop-i : goal.invariant-loop-i
-invariant-loop-i l = (l.i ≤ l.n) × Gathered no_token (retired_of l.id) (rows_of Dials l.l) l.firsts l.i l.tokens l.m
-
-abbrev pub decreases-loop-i : goal.decreases-loop-i
-decreases-loop-i l = l.n - l.i
+invariant-loop-i l = Gathered no_token (retired_of l.id) (rows_of Dials l.l) l.firsts l.i l.retired.tokens l.retired.count

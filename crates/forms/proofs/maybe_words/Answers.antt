@@ -6,10 +6,10 @@ pub returns-then-is_word : goal.returns-then-is_word
 unfolding maybe_words
 returns-then-is_word c = simp (sym c.is_word.ensures, c.if-is_word.true)
 
-pub returns-in-Value : goal.returns-in-Value
+pub returns-in-Some : goal.returns-in-Some
 unfolding maybe_words
-returns-in-Value c = simp (sym c.is_word.ensures, c.if-is_word.false, sym c.read_decimal.ensures, c.in-Value.is)
+returns-in-Some c = simp (sym c.is_word.ensures, c.if-is_word.false, sym c.read_decimal.ensures, c.in-Some.is)
 
-pub returns-in-Bad : goal.returns-in-Bad
+pub returns-in-None : goal.returns-in-None
 unfolding maybe_words
-returns-in-Bad c = simp (sym c.is_word.ensures, c.if-is_word.false, sym c.read_decimal.ensures, c.in-Bad.is)
+returns-in-None c = simp (sym c.is_word.ensures, c.if-is_word.false, sym c.read_decimal.ensures, c.in-None.is)

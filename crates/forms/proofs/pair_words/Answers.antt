@@ -25,8 +25,8 @@ returns-in_default c = simp (sym c.is_word.ensures, c.if-is_word.false, sym c.le
 
 pub returns-in_default-read_decimal : goal.returns-in_default-read_decimal
 unfolding pair_words
-returns-in_default-read_decimal c = simp (sym c.is_word.ensures, c.if-is_word.false, sym c.length_before-n.ensures, lt-leb _ _ c.if-value-n.false, sym c.read_decimal.ensures, c.in-Value.is, sym (c.read_decimal-2.ensures ∙ ap decimal_of (rest_of c.args.value.now (c.length_before-n.result + 1))), c.in_default-read_decimal.is)
+returns-in_default-read_decimal c = simp (sym c.is_word.ensures, c.if-is_word.false, sym c.length_before-n.ensures, lt-leb _ _ c.if-value-n.false, sym c.read_decimal.ensures, c.in-Some.is, sym (c.read_decimal-2.ensures ∙ ap decimal_of (rest_of c.args.value.now (c.length_before-n.result + 1))), c.in_default-read_decimal.is)
 
 pub returns : goal.returns
 unfolding pair_words
-returns c = simp (sym c.is_word.ensures, c.if-is_word.false, sym c.length_before-n.ensures, lt-leb _ _ c.if-value-n.false, sym c.read_decimal.ensures, c.in-Value.is, sym (c.read_decimal-2.ensures ∙ ap decimal_of (rest_of c.args.value.now (c.length_before-n.result + 1))), c.in-Value-read_decimal.is)
+returns c = simp (sym c.is_word.ensures, c.if-is_word.false, sym c.length_before-n.ensures, lt-leb _ _ c.if-value-n.false, sym c.read_decimal.ensures, c.in-Some.is, sym (c.read_decimal-2.ensures ∙ ap decimal_of (rest_of c.args.value.now (c.length_before-n.result + 1))), c.in-Some-read_decimal.is)

@@ -1,8 +1,9 @@
-use mathlib.Core.Path.{refl, sym, ◌∙◌}
+use mathlib.Core.Path.{refl, ap, sym, ◌∙◌}
 use Prim.Native.Nat.{◌+◌}
 use native.Mathlib.Omega.{arith}
-use Rattle.text.proofs.Printing.{laid}
-use Rattle.forms.proofs.Walk.{begin, literal, value_fits, choice_fits, next_fits, unread, cut_off, other_byte, same_byte, bad_value, bad_stored, good_value, bytes_left, all_read}
+use Rattle.text.proofs.Printing.{laid, laid_none}
+use Rattle.forms.specs.Forms.{is_good}
+use Rattle.forms.proofs.Walk.{begin, literal, value_fits, choice_fits, next_fits, unread, cut_off, other_byte, same_byte, bad_value, bad_stored, good_value, put, bytes_left, all_read}
 use Rattle.forms.proofs.read_form.Goals as goal
 
 pub loop-f-init : goal.loop-f-init
@@ -51,13 +52,13 @@ pub loop-f-smaller : goal.loop-f-smaller
 loop-f-smaller c = omega (arith, next_fits c.args.form.now c.kind_of-kind.result c.loop-f.f c.loop-f-test.true c.choice_length.ensures c.behind_choice-f.ensures)
 
 pub loop-f-preserved : goal.loop-f-preserved
-loop-f-preserved c = (omega (arith, next_fits c.args.form.now c.kind_of-kind.result c.loop-f.f c.loop-f-test.true c.choice_length.ensures c.behind_choice-f.ensures), omega (arith, value_fits c.args.line.now c.loop-f.i c.loop-f.invariant.1 c.length_before.ensures), good_value c.loop-f.invariant.2 c.loop-f-test.true c.kind_of-kind.ensures (sym c.is_literal.ensures ∙ c.if-is_literal.false) c.loop-f.invariant.1 c.length_before.ensures c.choice_length.ensures c.value_words-w.ensures (sym c.is_good.ensures ∙ c.if-is_good.true) c.behind_choice-f.ensures (laid _ _ _ (c.put_words-n.ensures.bytes, c.put_words-n.ensures.place)), c.put_words-n.auto.got ∙ c.loop-f.invariant.3)
+loop-f-preserved c = (omega (arith, next_fits c.args.form.now c.kind_of-kind.result c.loop-f.f c.loop-f-test.true c.choice_length.ensures c.behind_choice-f.ensures), omega (arith, value_fits c.args.line.now c.loop-f.i c.loop-f.invariant.1 c.length_before.ensures), good_value c.loop-f.invariant.2 c.loop-f-test.true c.kind_of-kind.ensures (sym c.is_literal.ensures ∙ c.if-is_literal.false) c.loop-f.invariant.1 c.length_before.ensures c.choice_length.ensures c.value_words-w.ensures (ap is_good c.in-Some.is) c.behind_choice-f.ensures (put c.in-Some.is (laid _ _ _ (c.put_words-n.ensures.bytes, c.put_words-n.ensures.place))), c.put_words-n.auto.got ∙ c.loop-f.invariant.3)
 
-pub shape_of-got-else-is_good : goal.shape_of-got-else-is_good
-shape_of-got-else-is_good c = c.put_words-n.auto.got ∙ c.loop-f.invariant.3
+pub shape_of-got-in-None : goal.shape_of-got-in-None
+shape_of-got-in-None c = c.loop-f.invariant.3
 
-pub returns-else-is_good : goal.returns-else-is_good
-returns-else-is_good c = record { good = (unread _ _ _ _ (bad_value c.loop-f.invariant.2 c.loop-f-test.true c.kind_of-kind.ensures (sym c.is_literal.ensures ∙ c.if-is_literal.false) c.loop-f.invariant.1 c.length_before.ensures c.choice_length.ensures c.value_words-w.ensures (sym c.is_good.ensures ∙ c.if-is_good.false)) (bad_stored c.loop-f.invariant.2 c.loop-f-test.true c.kind_of-kind.ensures (sym c.is_literal.ensures ∙ c.if-is_literal.false) c.loop-f.invariant.1 c.length_before.ensures c.choice_length.ensures c.value_words-w.ensures (laid _ _ _ (c.put_words-n.ensures.bytes, c.put_words-n.ensures.place)))).0; words = (unread _ _ _ _ (bad_value c.loop-f.invariant.2 c.loop-f-test.true c.kind_of-kind.ensures (sym c.is_literal.ensures ∙ c.if-is_literal.false) c.loop-f.invariant.1 c.length_before.ensures c.choice_length.ensures c.value_words-w.ensures (sym c.is_good.ensures ∙ c.if-is_good.false)) (bad_stored c.loop-f.invariant.2 c.loop-f-test.true c.kind_of-kind.ensures (sym c.is_literal.ensures ∙ c.if-is_literal.false) c.loop-f.invariant.1 c.length_before.ensures c.choice_length.ensures c.value_words-w.ensures (laid _ _ _ (c.put_words-n.ensures.bytes, c.put_words-n.ensures.place)))).1 }
+pub returns-in-None : goal.returns-in-None
+returns-in-None c = record { good = (unread _ _ _ _ (bad_value c.loop-f.invariant.2 c.loop-f-test.true c.kind_of-kind.ensures (sym c.is_literal.ensures ∙ c.if-is_literal.false) c.loop-f.invariant.1 c.length_before.ensures c.choice_length.ensures c.value_words-w.ensures (ap is_good c.in-None.is)) (bad_stored c.loop-f.invariant.2 c.loop-f-test.true c.kind_of-kind.ensures (sym c.is_literal.ensures ∙ c.if-is_literal.false) c.loop-f.invariant.1 c.length_before.ensures c.choice_length.ensures c.value_words-w.ensures (put c.in-None.is (laid_none _ _)))).0; words = (unread _ _ _ _ (bad_value c.loop-f.invariant.2 c.loop-f-test.true c.kind_of-kind.ensures (sym c.is_literal.ensures ∙ c.if-is_literal.false) c.loop-f.invariant.1 c.length_before.ensures c.choice_length.ensures c.value_words-w.ensures (ap is_good c.in-None.is)) (bad_stored c.loop-f.invariant.2 c.loop-f-test.true c.kind_of-kind.ensures (sym c.is_literal.ensures ∙ c.if-is_literal.false) c.loop-f.invariant.1 c.length_before.ensures c.choice_length.ensures c.value_words-w.ensures (put c.in-None.is (laid_none _ _)))).1 }
 
 pub shape_of-got-then-i-line : goal.shape_of-got-then-i-line
 shape_of-got-then-i-line c = c.loop-f.invariant.3

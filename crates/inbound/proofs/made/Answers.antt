@@ -4,4 +4,4 @@ use Rattle.inbound.proofs.made.Goals as goal
 
 pub returns : goal.returns
 unfolding answer_of
-returns c = simp (sym c.message_size-len.ensures)
+returns c = simp (sym c.message_size.ensures)

@@ -6,16 +6,16 @@ pub shape_of-out-in-Connect : goal.shape_of-out-in-Connect
 shape_of-out-in-Connect c = c.decode.auto.out
 
 pub returns-in-Connect : goal.returns-in-Connect
-returns-in-Connect c = record { answer = is_connect c.decode.ensures.answer c.in-Message.is c.in-Connect.is; stored = c.decode.ensures.stored }
+returns-in-Connect c = record { answer = is_connect c.decode.ensures.answer c.in-Ok.is c.in-Connect.is; stored = c.decode.ensures.stored }
 
 pub shape_of-out-in-Sync : goal.shape_of-out-in-Sync
 shape_of-out-in-Sync c = c.decode.auto.out
 
 pub returns-in-Sync : goal.returns-in-Sync
-returns-in-Sync c = record { answer = is_sync c.decode.ensures.answer c.in-Message.is c.in-Sync.is; stored = c.decode.ensures.stored }
+returns-in-Sync c = record { answer = is_sync c.decode.ensures.answer c.in-Ok.is c.in-Sync.is; stored = c.decode.ensures.stored }
 
-pub shape_of-out-in-Refused : goal.shape_of-out-in-Refused
-shape_of-out-in-Refused c = c.decode.auto.out
+pub shape_of-out-in-Err : goal.shape_of-out-in-Err
+shape_of-out-in-Err c = c.decode.auto.out
 
-pub returns-in-Refused : goal.returns-in-Refused
-returns-in-Refused c = record { answer = is_refused c.decode.ensures.answer c.in-Refused.is; stored = c.decode.ensures.stored }
+pub returns-in-Err : goal.returns-in-Err
+returns-in-Err c = record { answer = is_refused c.decode.ensures.answer c.in-Err.is; stored = c.decode.ensures.stored }

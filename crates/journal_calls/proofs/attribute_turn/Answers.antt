@@ -2,11 +2,14 @@ use Rattle.ledger.specs.Ledger.{tables_of}
 use Rattle.journal_calls.proofs.Turning.{named_turn}
 use Rattle.journal_calls.proofs.attribute_turn.Goals as goal
 
-pub returns-in-Path : goal.returns-in-Path
-returns-in-Path c = record { turn = (named_turn c.args.j (tables_of c.args.ledger.now) c.args.conn c.args.peer c.args.circuit c.args.at c.args.ledger.now c.claim_for-claim.ensures c.in-Path.is c.say.ensures (c.attribute-answer.ensures.answer, (c.attribute-answer.ensures.tables, c.attribute-answer.ensures.words))).0; tables = (named_turn c.args.j (tables_of c.args.ledger.now) c.args.conn c.args.peer c.args.circuit c.args.at c.args.ledger.now c.claim_for-claim.ensures c.in-Path.is c.say.ensures (c.attribute-answer.ensures.answer, (c.attribute-answer.ensures.tables, c.attribute-answer.ensures.words))).1.0; words = (named_turn c.args.j (tables_of c.args.ledger.now) c.args.conn c.args.peer c.args.circuit c.args.at c.args.ledger.now c.claim_for-claim.ensures c.in-Path.is c.say.ensures (c.attribute-answer.ensures.answer, (c.attribute-answer.ensures.tables, c.attribute-answer.ensures.words))).1.1 }
+pub returns-in-Ok : goal.returns-in-Ok
+returns-in-Ok c =
+    let a = c.args in
+    let t = named_turn a.j (tables_of a.ledger.now) a.conn a.peer a.circuit a.at a.ledger.now c.claim_for-claim.ensures c.in-Ok.is c.say.ensures (c.attribute.ensures.answer, (c.attribute.ensures.tables, c.attribute.ensures.words)) in
+    record { turn = t.0; tables = t.1.0; words = t.1.1 }
 
-pub returns-in-None : goal.returns-in-None
-returns-in-None c = record { turn = (named_turn c.args.j (tables_of c.args.ledger.now) c.args.conn c.args.peer c.args.circuit c.args.at c.args.ledger.now c.claim_for-claim.ensures c.in-None.is c.say-in-None.ensures (c.attribute-answer.ensures.answer, (c.attribute-answer.ensures.tables, c.attribute-answer.ensures.words))).0; tables = (named_turn c.args.j (tables_of c.args.ledger.now) c.args.conn c.args.peer c.args.circuit c.args.at c.args.ledger.now c.claim_for-claim.ensures c.in-None.is c.say-in-None.ensures (c.attribute-answer.ensures.answer, (c.attribute-answer.ensures.tables, c.attribute-answer.ensures.words))).1.0; words = (named_turn c.args.j (tables_of c.args.ledger.now) c.args.conn c.args.peer c.args.circuit c.args.at c.args.ledger.now c.claim_for-claim.ensures c.in-None.is c.say-in-None.ensures (c.attribute-answer.ensures.answer, (c.attribute-answer.ensures.tables, c.attribute-answer.ensures.words))).1.1 }
-
-pub returns-in-Refused : goal.returns-in-Refused
-returns-in-Refused c = record { turn = (named_turn c.args.j (tables_of c.args.ledger.now) c.args.conn c.args.peer c.args.circuit c.args.at c.args.ledger.now c.claim_for-claim.ensures c.in-Refused.is c.say-in-Refused.ensures (c.attribute-answer.ensures.answer, (c.attribute-answer.ensures.tables, c.attribute-answer.ensures.words))).0; tables = (named_turn c.args.j (tables_of c.args.ledger.now) c.args.conn c.args.peer c.args.circuit c.args.at c.args.ledger.now c.claim_for-claim.ensures c.in-Refused.is c.say-in-Refused.ensures (c.attribute-answer.ensures.answer, (c.attribute-answer.ensures.tables, c.attribute-answer.ensures.words))).1.0; words = (named_turn c.args.j (tables_of c.args.ledger.now) c.args.conn c.args.peer c.args.circuit c.args.at c.args.ledger.now c.claim_for-claim.ensures c.in-Refused.is c.say-in-Refused.ensures (c.attribute-answer.ensures.answer, (c.attribute-answer.ensures.tables, c.attribute-answer.ensures.words))).1.1 }
+pub returns-in-Err : goal.returns-in-Err
+returns-in-Err c =
+    let a = c.args in
+    let t = named_turn a.j (tables_of a.ledger.now) a.conn a.peer a.circuit a.at a.ledger.now c.claim_for-claim.ensures c.in-Err.is c.say-in-Err.ensures (c.attribute.ensures.answer, (c.attribute.ensures.tables, c.attribute.ensures.words)) in
+    record { turn = t.0; tables = t.1.0; words = t.1.1 }

@@ -1,21 +1,22 @@
+use Rattle.std.specs.Prelude.{Result, ⊤}
 use Rattle.journal_calls.specs.Calls.{saying, said_of}
-use Rattle.vocabulary.specs.declared.Outcome.{Outcome}
 use mathlib.Core.Path.{◌∙◌, ap}
 use mathlib.Core.Path.{sym}
 use Rattle.journal_calls.proofs.dial_turn.Goals as goal
+use Rattle.refusal.specs.declared.Refusal.{Refusal}
 
-pub returns-in-Refused : goal.returns-in-Refused
-returns-in-Refused c =
+pub returns-in-Err : goal.returns-in-Err
+returns-in-Err c =
     record {
-      turn = c.say.ensures ∙ ap (λ (o : Outcome). saying c.args.j (said_of o)) (sym c.in-Refused.is ∙ c.dial_started-outcome.ensures.answer);
-      tables = c.dial_started-outcome.ensures.tables;
-      words = c.dial_started-outcome.ensures.words;
+      turn = c.say.ensures ∙ ap (λ (o : Result ⊤ Refusal). saying c.args.j (said_of o)) (sym c.in-Err.is ∙ c.dial_started.ensures.answer);
+      tables = c.dial_started.ensures.tables;
+      words = c.dial_started.ensures.words;
     }
 
-pub returns-in-Accepted : goal.returns-in-Accepted
-returns-in-Accepted c =
+pub returns-in-Ok : goal.returns-in-Ok
+returns-in-Ok c =
     record {
-      turn = c.say-in-Accepted.ensures ∙ ap (λ (o : Outcome). saying c.args.j (said_of o)) (sym c.in-Accepted.is ∙ c.dial_started-outcome.ensures.answer);
-      tables = c.dial_started-outcome.ensures.tables;
-      words = c.dial_started-outcome.ensures.words;
+      turn = c.say-in-Ok.ensures ∙ ap (λ (o : Result ⊤ Refusal). saying c.args.j (said_of o)) (sym c.in-Ok.is ∙ c.dial_started.ensures.answer);
+      tables = c.dial_started.ensures.tables;
+      words = c.dial_started.ensures.words;
     }

@@ -1,17 +1,9 @@
-use Rattle.journal_effects.proofs.Short.{burst_short, send_short, laid_printed, laid_place}
+use Rattle.journal_effects.proofs.Short.{burst_short, send_short}
 use Rattle.journal_prints.specs.Room.{is_path, is_upgrade, is_close, is_reset, is_open}
 use Rattle.journal_prints.proofs.Room.{short}
 use Rattle.text.proofs.Printing.{laid, length_kept}
 use native.Mathlib.Omega.{arith}
 use Rattle.journal_effects.proofs.put_effect.Goals as goal
-
-pub returns-in-Nothing : goal.returns-in-Nothing
-returns-in-Nothing c =
-    record {
-      bytes = rw c.in-Nothing.is (laid_printed _ _);
-      place = rw c.in-Nothing.is (laid_place _ _);
-      short = rw c.in-Nothing.is (omega arith);
-    }
 
 pub shape_of-out-in-Path : goal.shape_of-out-in-Path
 shape_of-out-in-Path c = length_kept (laid _ _ _ (c.put_path.ensures.bytes, c.put_path.ensures.place))

@@ -1,14 +1,14 @@
 use Rattle.text.proofs.Printing.{laid, length_kept}
 use Rattle.journal_prints.proofs.put_attributed.Goals as goal
 
-pub shape_of-out-in-At : goal.shape_of-out-in-At
-shape_of-out-in-At c = length_kept (laid _ _ _ (c.put_attribution.ensures.bytes, c.put_attribution.ensures.place))
+pub shape_of-out-in-Some : goal.shape_of-out-in-Some
+shape_of-out-in-Some c = length_kept (laid _ _ _ (c.put_attribution.ensures.bytes, c.put_attribution.ensures.place))
 
-pub returns-in-At : goal.returns-in-At
-returns-in-At c =
+pub returns-in-Some : goal.returns-in-Some
+returns-in-Some c =
     record {
-      bytes = rw c.in-At.is (c.put_attribution.ensures.bytes);
-      place = rw c.in-At.is (c.put_attribution.ensures.place);
+      bytes = rw c.in-Some.is (c.put_attribution.ensures.bytes);
+      place = rw c.in-Some.is (c.put_attribution.ensures.place);
     }
 
 pub shape_of-out-in-None : goal.shape_of-out-in-None

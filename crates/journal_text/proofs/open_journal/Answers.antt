@@ -5,22 +5,22 @@ use Rattle.vocabulary.specs.declared.Settings.{Settings}
 use Rattle.journal_text.specs.Texts.{settings_in, opened}
 use Rattle.journal_text.proofs.open_journal.Goals as goal
 
-pub returns-in-Settings : goal.returns-in-Settings
+pub returns-in-Some : goal.returns-in-Some
 unfolding opened
-returns-in-Settings c =
+returns-in-Some c =
     record {
-      good = simp (c.in-Settings.is, sym c.read_first-first.ensures);
+      good = simp (c.in-Some.is, sym c.read_first-first.ensures);
       state = c.new_journal-state.ensures ∙ ap (λ (x : Settings). state_of (new_journal x)) (c.settings_in-settings.ensures ∙ ap settings_in c.read_first-first.ensures);
-      bytes = simp (c.in-Settings.is, sym c.read_first-first.ensures) ((parts (laid_none _ _)).0);
-      place = simp (c.in-Settings.is, sym c.read_first-first.ensures) ((parts (laid_none _ _)).1);
+      bytes = simp (c.in-Some.is, sym c.read_first-first.ensures) ((parts (laid_none _ _)).0);
+      place = simp (c.in-Some.is, sym c.read_first-first.ensures) ((parts (laid_none _ _)).1);
     }
 
-pub returns-in-Unknown : goal.returns-in-Unknown
+pub returns-in-None : goal.returns-in-None
 unfolding opened
-returns-in-Unknown c =
+returns-in-None c =
     record {
-      good = simp (c.in-Unknown.is, sym c.read_first-first.ensures);
+      good = simp (c.in-None.is, sym c.read_first-first.ensures);
       state = c.new_journal-state.ensures ∙ ap (λ (x : Settings). state_of (new_journal x)) (c.settings_in-settings.ensures ∙ ap settings_in c.read_first-first.ensures);
-      bytes = simp (c.in-Unknown.is, sym c.read_first-first.ensures) c.put_refused-p.ensures.bytes;
-      place = simp (c.in-Unknown.is, sym c.read_first-first.ensures) c.put_refused-p.ensures.place;
+      bytes = simp (c.in-None.is, sym c.read_first-first.ensures) c.put_refused.ensures.bytes;
+      place = simp (c.in-None.is, sym c.read_first-first.ensures) c.put_refused.ensures.place;
     }

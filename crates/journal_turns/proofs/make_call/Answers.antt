@@ -1,5 +1,5 @@
 use mathlib.Core.Path.{refl}
-use Rattle.journal_calls.proofs.Turning.{all, start_left, up_left, tick_left, wrote_left, down_left, dial_left, forget_left, attribute_left, refused_left}
+use Rattle.journal_calls.proofs.Turning.{all, start_left, up_left, tick_left, wrote_left, down_left, dial_left, forget_left, attribute_left}
 use Rattle.journal_turns.proofs.make_call.Goals as goal
 
 pub returns-in-Start : goal.returns-in-Start
@@ -63,11 +63,4 @@ returns-in-Attribute c =
     record {
       turn = rw c.in-Attribute.is (all c.args.j c.args.connect.now c.args.targets.now c.args.ledger.now c.args.sent.now c.known.ensures _ (attribute_left c.args.j c.args.connect.now c.args.targets.now c.args.ledger.now c.args.sent.now c.known.ensures _ _ _ _ (c.attribute_turn.ensures.turn, (c.attribute_turn.ensures.tables, c.attribute_turn.ensures.words))));
       reply = rw c.in-Attribute.is (refl);
-    }
-
-pub returns-in-Unknown : goal.returns-in-Unknown
-returns-in-Unknown c =
-    record {
-      turn = rw c.in-Unknown.is (all c.args.j c.args.connect.now c.args.targets.now c.args.ledger.now c.args.sent.now c.known.ensures _ (refused_left c.args.j c.args.connect.now c.args.targets.now c.args.ledger.now c.args.sent.now c.known.ensures _ c.say.ensures));
-      reply = rw c.in-Unknown.is (refl);
     }

@@ -13,7 +13,7 @@ pub returns-then-insert : goal.returns-then-insert
 unfolding attributed
 returns-then-insert c =
     let a = c.args in
-    let e = sym c.judge-judgement.ensures ∙ c.in-At.is in
+    let e = sym c.judge-judgement.ensures ∙ c.in-Some.is in
     let i = rw c.row_of.ensures at c.insert.ensures.answer in
     let s = rw c.row_of.ensures at c.insert.ensures.words in
     let f = no_true _ (sym i ∙ c.if-insert.true) in
@@ -24,7 +24,7 @@ pub returns : goal.returns
 unfolding attributed
 returns c =
     let a = c.args in
-    let e = sym c.judge-judgement.ensures ∙ c.in-At.is in
+    let e = sym c.judge-judgement.ensures ∙ c.in-Some.is in
     let i = rw c.row_of.ensures at c.insert.ensures.answer in
     let s = rw c.row_of.ensures at c.insert.ensures.words in
     let f = no_false _ (sym i ∙ c.if-insert.false) in

@@ -1,42 +1,26 @@
-use mathlib.Core.Path.{◌≡◌, refl, ap, ◌∙◌}
-use mathlib.Core.List.{List}
+use Prim.Native.Nat.{◌≤◌}
+use mathlib.Core.Path.{◌≡◌, ap, ◌∙◌}
+use mathlib.Core.Bool.{cond}
+use mathlib.Core.List.{List, map}
 use native.Mathlib.Omega.{arith}
-use lib.ListN.{get_or}
+use lib.Dec.{ltb}
+use lib.ListN.{length, length-map, get_or}
+use Rattle.std.proofs.Common.{rules, tests}
 use Rattle.ids.specs.declared.PeerId.{PeerId}
 use Rattle.rows.specs.declared.Table.TheVariants.{Dials}
 use Rattle.rows.specs.Words.{rows_of, no_row}
-use Rattle.rows.proofs.Lists.{map_more, map_all}
 use Rattle.dials.specs.Dials.{asked_of}
+use Rattle.dials.proofs.Arrays.{made_padded, map_place}
 use Rattle.live_dials.specs.declared.Asked.{Asked}
 use Rattle.live_dials.specs.Asking.{asked_rows}
 use Rattle.live_dials.proofs.asked_rows.Goals as goal
 
-pub loop-k-init : goal.loop-k-init
-loop-k-init c = (omega arith, refl)
-
-pub offset_bounds-a-k : goal.offset_bounds-a-k
-offset_bounds-a-k c = omega arith
-
-pub bounds-a-k : goal.bounds-a-k
-bounds-a-k c = omega arith
-
-pub overflow_add-k : goal.overflow_add-k
-overflow_add-k c = omega arith
-
-pub loop-k-smaller : goal.loop-k-smaller
-loop-k-smaller c = omega arith
-
-pub loop-k-preserved : goal.loop-k-preserved
-loop-k-preserved c =
-    let g = c.args in
-    let x = c.loop-k in
-    let rs = rows_of Dials g.l.now in
-    let e : c.asked_of-p.result ≡ asked_of g.target (get_or rs x.k no_row) = c.asked_of-p.ensures ∙ ap (asked_of g.target) c.row_at-r.ensures in
-    (omega arith, rw (x.invariant.1, e) (map_more (asked_of g.target) g.target rs x.k no_row (omega arith) (omega arith)))
-
 pub returns : goal.returns
 unfolding asked_rows
 returns c =
-    let g = c.args in
-    let x = c.loop-k in
-    ap {B = Asked} (λ (ps : List PeerId). record { peers = ps }) (x.invariant.1 ∙ map_all (asked_of g.target) g.target (rows_of Dials g.l.now) x.k (omega arith))
+    let a = c.args in
+    let rs = rows_of Dials a.l.now in
+    let n : length (map (asked_of a.target) rs) ≤ 64 = simp length-map (omega arith) in
+    ap {B = Asked} (λ (ps : List PeerId). record { peers = ps }) (made_padded a.target (map (asked_of a.target) rs) _ c.from_fn.result 64 n c.from_fn.ensures.items (λ i y q l k.
+    let s : y ≡ cond (ltb i c.used-n.result) (asked_of a.target (get_or rs i no_row)) a.target = search (rules, tests) in
+    (search rules, s ∙ map_place (asked_of a.target) a.target no_row rs i c.used-n.result (omega arith))))

@@ -16,4 +16,4 @@ pub returns-in-Refused : goal.returns-in-Refused
 returns-in-Refused c = record { answer = (read_refused c.args.message.now c.args.out.now c.if-message-gt-MAX_MESSAGE_SIZE.false c.measure.ensures c.in-Refused.is).0; stored = (read_refused c.args.message.now c.args.out.now c.if-message-gt-MAX_MESSAGE_SIZE.false c.measure.ensures c.in-Refused.is).1 }
 
 pub returns-else-out-size : goal.returns-else-out-size
-returns-else-out-size c = record { answer = (read_done c.args.message.now c.args.out.now c.if-message-gt-MAX_MESSAGE_SIZE.false c.measure.ensures c.in-Good.is c.if-out-size.false c.kind_of-k.ensures c.put_addresses.ensures).0; stored = (read_done c.args.message.now c.args.out.now c.if-message-gt-MAX_MESSAGE_SIZE.false c.measure.ensures c.in-Good.is c.if-out-size.false c.kind_of-k.ensures c.put_addresses.ensures).1 }
+returns-else-out-size c = record { answer = (read_done c.args.message.now c.args.out.now c.if-message-gt-MAX_MESSAGE_SIZE.false c.measure.ensures c.in-Good.is c.if-out-size.false c.kind_of.ensures c.put_addresses.ensures).0; stored = (read_done c.args.message.now c.args.out.now c.if-message-gt-MAX_MESSAGE_SIZE.false c.measure.ensures c.in-Good.is c.if-out-size.false c.kind_of.ensures c.put_addresses.ensures).1 }

@@ -14,29 +14,29 @@ unfolding encode_of encode_into
 returns-then-out-size c =
     let a = c.args in
     let m = message_bytes a.kind (entries a.list.now) in
-    let z = size_is a.list.now m c.message_size.ensures c.in-Message.is in record { answer = (write_short a.list.now m m a.out.now c.message_size.ensures c.in-Message.is (omega arith)).0; stored = (write_short a.list.now m m a.out.now c.message_size.ensures c.in-Message.is (omega arith)).1 }
+    let z = size_is a.list.now m c.message_size.ensures c.in-Ok.is in record { answer = (write_short a.list.now m m a.out.now c.message_size.ensures c.in-Ok.is (omega arith)).0; stored = (write_short a.list.now m m a.out.now c.message_size.ensures c.in-Ok.is (omega arith)).1 }
 
 pub put_message-requires : goal.put_message-requires
 unfolding encode_of
 put_message-requires c =
     let a = c.args in
     let m = message_bytes a.kind (entries a.list.now) in
-    let z = size_is a.list.now m c.message_size.ensures c.in-Message.is in
+    let z = size_is a.list.now m c.message_size.ensures c.in-Ok.is in
     let b = message_adds a.kind (entries a.list.now) c.type_number-number.ensures in
     omega arith
 
-pub returns-in-Refused : goal.returns-in-Refused
+pub returns-in-Err : goal.returns-in-Err
 unfolding encode_of encode_into
-returns-in-Refused c =
+returns-in-Err c =
     let a = c.args in
-    let m = message_bytes a.kind (entries a.list.now) in record { answer = (write_refused a.list.now m m a.out.now c.message_size.ensures c.in-Refused.is).0; stored = (write_refused a.list.now m m a.out.now c.message_size.ensures c.in-Refused.is).1 }
+    let m = message_bytes a.kind (entries a.list.now) in record { answer = (write_refused a.list.now m m a.out.now c.message_size.ensures c.in-Err.is).0; stored = (write_refused a.list.now m m a.out.now c.message_size.ensures c.in-Err.is).1 }
 
 pub returns-else-out-size : goal.returns-else-out-size
 unfolding encode_of encode_into
 returns-else-out-size c =
     let a = c.args in
     let m = message_bytes a.kind (entries a.list.now) in
-    let z = size_is a.list.now m c.message_size.ensures c.in-Message.is in
-    let t = write_done a.list.now m m a.out.now c.message_size.ensures c.in-Message.is (omega arith) z.1
+    let z = size_is a.list.now m c.message_size.ensures c.in-Ok.is in
+    let t = write_done a.list.now m m a.out.now c.message_size.ensures c.in-Ok.is (omega arith) z.1
     (c.put_message.ensures ∙ ap (λ (x : ℕ). sets a.out.now 0 (type_field x ++ address_fields (entries a.list.now))) c.type_number-number.ensures) in
     record { answer = t.0; stored = t.1 }

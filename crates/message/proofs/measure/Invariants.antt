@@ -1,14 +1,12 @@
 -- `message::measure` meets its contract: the invariant: what is left to scan, with the type and the length so far, measures as the whole does.
-use mathlib.Core.Path.{◌≡◌}
-use Prim.Native.Nat.{ℕ, ◌+◌, ◌≤◌, ◌-◌}
-use lib.ListN.{length, drop}
+use Rattle.std.proofs.Common.{ℕ, ◌≡◌, ◌+◌, ◌≤◌, length}
 use Rattle.message.specs.Message.{scan, content_of, measured}
 use Rattle.message.proofs.Scan.{longer}
 use Rattle.message.proofs.measure.Given as goal
 
-abbrev pub invariant-loop-at : goal.invariant-loop-at
-invariant-loop-at l =
-    (n : ℕ) × (length l.s ≤ n + l.at) × (l.at ≤ length l.s) × (l.size ≤ l.at) × (longer l.size (measured (scan n l.kind (drop l.at l.s))) ≡ measured (content_of l.s))
+abbrev pub invariant-loop-rest : goal.invariant-loop-rest
+invariant-loop-rest l =
+    (n : ℕ) × (length l.rest ≤ n) × (l.size + length l.rest ≤ length l.s) × (longer l.size (measured (scan n l.kind l.rest)) ≡ measured (content_of l.s))
 
-abbrev pub decreases-loop-at : goal.decreases-loop-at
-decreases-loop-at l = length l.s - l.at
+abbrev pub decreases-loop-rest : goal.decreases-loop-rest
+decreases-loop-rest l = length l.rest

@@ -1,103 +1,63 @@
--- `message::put_addresses` meets its contract: the invariant: storing the addresses still to come gives what storing all gives.
-use mathlib.Core.Path.{refl, ◌∙◌}
-use Prim.Native.Nat.{◌-◌}
-use native.Mathlib.Omega.{arith}
-use lib.ListN.{length}
-use Rattle.message.proofs.Scan.{sized}
+-- `message::put_addresses` meets its contract: a turn takes the field in front, and what follows it is left.
+use Rattle.std.proofs.Common.{refl, ◌∙◌, ◌+◌, ◌-◌, arith, length, length-drop}
+use Rattle.wire.proofs.Spans.{rest_of}
+use Rattle.message.proofs.Scan.{some_left, none_left, typed_within, address_within, other_within}
 use Rattle.message.proofs.Addresses.{left_end, left_malformed, left_typed, left_other, left_entry}
-use Rattle.protobuf.specs.declared.Field.TheVariants as f
 use Rattle.message.proofs.put_addresses.Goals as goal
 
-pub loop-at-init : goal.loop-at-init
-loop-at-init c = (length c.args.s.now, 0, omega arith, omega arith, omega arith, (c.requires.1, refl), refl)
-
-pub shape_of-out-in-Malformed : goal.shape_of-out-in-Malformed
-shape_of-out-in-Malformed c = c.loop-at.invariant.6
+pub loop-rest-init : goal.loop-rest-init
+loop-rest-init c = (length c.args.s.now, 0, omega arith, omega arith, (c.requires.1, refl), refl)
 
 pub returns-in-Malformed : goal.returns-in-Malformed
 returns-in-Malformed c =
-    let l = c.loop-at in
-    absurd (left_malformed c.args.s.now l.at c.first_field.ensures l.invariant.0 l.invariant.1 l.invariant.2 c.loop-at-test.true l.out l.p _ l.invariant.5 c.in-Malformed.is)
+    let l = c.loop-rest in
+    let some = some_left (length l.rest.now) c.is_empty.ensures c.loop-rest-test.true in
+    absurd (left_malformed l.rest.now c.first_field.ensures l.invariant.0 l.invariant.1 l.invariant.2 some l.out l.p _ l.invariant.4 c.in-Malformed.is)
 
-pub overflow_add-at : goal.overflow_add-at
-overflow_add-at c = omega (arith, sized c.args.s.now c.loop-at.at c.first_field.ensures (f.Typed c.in-Typed.value c.in-Typed.n) c.in-Typed.is)
-
-pub loop-at-smaller-in-Typed : goal.loop-at-smaller-in-Typed
-loop-at-smaller-in-Typed c = omega (arith, sized c.args.s.now c.loop-at.at c.first_field.ensures (f.Typed c.in-Typed.value c.in-Typed.n) c.in-Typed.is)
-
-pub loop-at-preserved-in-Typed : goal.loop-at-preserved-in-Typed
-loop-at-preserved-in-Typed c =
-    let l = c.loop-at in
-    let z = sized c.args.s.now l.at c.first_field.ensures (f.Typed c.in-Typed.value c.in-Typed.n) c.in-Typed.is in (
+pub loop-rest-preserved-in-Typed : goal.loop-rest-preserved-in-Typed
+loop-rest-preserved-in-Typed c =
+    let l = c.loop-rest in
+    let some = some_left (length l.rest.now) c.is_empty.ensures c.loop-rest-test.true in
+    let z = typed_within l.rest.now c.first_field.ensures c.in-Typed.is in
+    rw (rest_of l.rest.now c.in-Typed.size) (
       l.invariant.0 - 1,
       c.in-Typed.value,
-      omega arith,
-      omega arith,
-      omega arith,
-      left_typed c.args.s.now l.at c.first_field.ensures l.invariant.0 l.invariant.1 l.invariant.2 c.loop-at-test.true l.out l.p _ l.invariant.5 c.in-Typed.is,
-      l.invariant.6,
+      omega (arith, length-drop c.in-Typed.size l.rest.now),
+      omega (arith, length-drop c.in-Typed.size l.rest.now),
+      left_typed l.rest.now c.first_field.ensures l.invariant.0 l.invariant.1 l.invariant.2 some l.out l.p _ l.invariant.4 c.in-Typed.is,
+      l.invariant.5,
     )
 
-pub overflow_add-a : goal.overflow_add-a
-overflow_add-a c = omega (arith, sized c.args.s.now c.loop-at.at c.first_field.ensures (f.Address c.in-Address.start c.in-Address.len) c.in-Address.is)
-
-pub overflow_add-e : goal.overflow_add-e
-overflow_add-e c = omega (arith, sized c.args.s.now c.loop-at.at c.first_field.ensures (f.Address c.in-Address.start c.in-Address.len) c.in-Address.is)
-
-pub slice_bounds-put_entry-count : goal.slice_bounds-put_entry-count
-slice_bounds-put_entry-count c = omega (arith, sized c.args.s.now c.loop-at.at c.first_field.ensures (f.Address c.in-Address.start c.in-Address.len) c.in-Address.is)
-
-pub slice_bounds-put_entry-start : goal.slice_bounds-put_entry-start
-slice_bounds-put_entry-start c = omega (arith, sized c.args.s.now c.loop-at.at c.first_field.ensures (f.Address c.in-Address.start c.in-Address.len) c.in-Address.is)
-
-pub slice_bounds-put_entry-end : goal.slice_bounds-put_entry-end
-slice_bounds-put_entry-end c = omega (arith, sized c.args.s.now c.loop-at.at c.first_field.ensures (f.Address c.in-Address.start c.in-Address.len) c.in-Address.is)
-
-pub overflow_add-p : goal.overflow_add-p
-overflow_add-p c = omega (arith, sized c.args.s.now c.loop-at.at c.first_field.ensures (f.Address c.in-Address.start c.in-Address.len) c.in-Address.is)
-
-pub overflow_add-p-in-Address : goal.overflow_add-p-in-Address
-overflow_add-p-in-Address c = omega (arith, sized c.args.s.now c.loop-at.at c.first_field.ensures (f.Address c.in-Address.start c.in-Address.len) c.in-Address.is)
-
-pub loop-at-smaller-in-Address : goal.loop-at-smaller-in-Address
-loop-at-smaller-in-Address c = omega (arith, sized c.args.s.now c.loop-at.at c.first_field.ensures (f.Address c.in-Address.start c.in-Address.len) c.in-Address.is)
-
-pub loop-at-preserved-in-Address : goal.loop-at-preserved-in-Address
-loop-at-preserved-in-Address c =
-    let l = c.loop-at in
-    let z = sized c.args.s.now l.at c.first_field.ensures (f.Address c.in-Address.start c.in-Address.len) c.in-Address.is in (
+pub loop-rest-preserved-in-Address : goal.loop-rest-preserved-in-Address
+loop-rest-preserved-in-Address c =
+    let l = c.loop-rest in
+    let n = c.in-Address.start + c.in-Address.len in
+    let some = some_left (length l.rest.now) c.is_empty.ensures c.loop-rest-test.true in
+    let z = address_within l.rest.now c.first_field.ensures c.in-Address.is in
+    rw (rest_of l.rest.now n) (
       l.invariant.0 - 1,
       l.invariant.1,
-      omega arith,
-      omega arith,
-      omega arith,
-      left_entry c.args.s.now l.at c.first_field.ensures l.invariant.0 l.invariant.1 l.invariant.2 c.loop-at-test.true l.out l.p _ l.invariant.5 c.in-Address.is c.put_entry.ensures,
-      c.put_entry.auto.out ∙ l.invariant.6,
+      omega (arith, length-drop n l.rest.now),
+      omega (arith, length-drop n l.rest.now),
+      left_entry l.rest.now c.first_field.ensures l.invariant.0 l.invariant.1 l.invariant.2 some l.out l.p _ l.invariant.4 c.in-Address.is c.put_entry.ensures,
+      c.put_entry.auto.out ∙ l.invariant.5,
     )
 
-pub overflow_add-at-in-Other : goal.overflow_add-at-in-Other
-overflow_add-at-in-Other c = omega (arith, sized c.args.s.now c.loop-at.at c.first_field.ensures (f.Other c.in-Other.n) c.in-Other.is)
-
-pub loop-at-smaller : goal.loop-at-smaller
-loop-at-smaller c = omega (arith, sized c.args.s.now c.loop-at.at c.first_field.ensures (f.Other c.in-Other.n) c.in-Other.is)
-
-pub loop-at-preserved : goal.loop-at-preserved
-loop-at-preserved c =
-    let l = c.loop-at in
-    let z = sized c.args.s.now l.at c.first_field.ensures (f.Other c.in-Other.n) c.in-Other.is in (
+pub loop-rest-preserved : goal.loop-rest-preserved
+loop-rest-preserved c =
+    let l = c.loop-rest in
+    let some = some_left (length l.rest.now) c.is_empty.ensures c.loop-rest-test.true in
+    let z = other_within l.rest.now c.first_field.ensures c.in-Other.is in
+    rw (rest_of l.rest.now c.in-Other.size) (
       l.invariant.0 - 1,
       l.invariant.1,
-      omega arith,
-      omega arith,
-      omega arith,
-      left_other c.args.s.now l.at c.first_field.ensures l.invariant.0 l.invariant.1 l.invariant.2 c.loop-at-test.true l.out l.p _ l.invariant.5 c.in-Other.is,
-      l.invariant.6,
+      omega (arith, length-drop c.in-Other.size l.rest.now),
+      omega (arith, length-drop c.in-Other.size l.rest.now),
+      left_other l.rest.now c.first_field.ensures l.invariant.0 l.invariant.1 l.invariant.2 some l.out l.p _ l.invariant.4 c.in-Other.is,
+      l.invariant.5,
     )
-
-pub shape_of-out : goal.shape_of-out
-shape_of-out c = c.loop-at.invariant.6
 
 pub returns : goal.returns
 returns c =
-    let l = c.loop-at in
-    left_end c.args.s.now l.at l.invariant.0 l.invariant.1 l.out l.p _ c.loop-at-test.false l.invariant.5
+    let l = c.loop-rest in
+    left_end l.rest.now l.invariant.0 l.invariant.1 l.out l.p _ (none_left (length l.rest.now) c.is_empty.ensures c.loop-rest-test.false) l.invariant.4

@@ -1,4 +1,3 @@
-use Prim.Native.Nat.{◌≤◌, ◌-◌}
 use mathlib.Core.Path.{◌≡◌}
 use lib.ListN.{drop}
 use Rattle.rows.specs.Rows.{find_in}
@@ -6,7 +5,4 @@ use Rattle.rows.specs.Words.{rows_from}
 use Rattle.rows.proofs.find_from.Given as goal
 
 abbrev pub invariant-loop-i : goal.invariant-loop-i
-invariant-loop-i l = (l.i ≤ l.n) × (find_in l.key (rows_from l.b l.l) ≡ find_in l.key (drop l.i (rows_from l.b l.l)))
-
-abbrev pub decreases-loop-i : goal.decreases-loop-i
-decreases-loop-i l = l.n - l.i
+invariant-loop-i l = find_in l.key (rows_from l.b l.l) ≡ find_in l.key (drop l.i (rows_from l.b l.l))

@@ -22,7 +22,7 @@ pub returns-then-is_crowded_from : goal.returns-then-is_crowded_from
 returns-then-is_crowded_from c =
     let a = c.args in
     let w = a.l.now in
-    let h : a.b + 321 ≤ length w = omega (arith, c.known.ensures) in
+    let h : a.b + 321 ≤ length w = omega (arith, c.told-l) in
     let e : crowded a.row.key (rows_from a.b w) ≡ true = sym c.is_crowded_from.ensures ∙ c.if-is_crowded_from.true in
     record { answer = rw e refl; words = rw e (sym (laid_own a.b w h)) }
 
@@ -67,7 +67,7 @@ returns c =
     let w = a.l.now in
     let rs = rows_from a.b w in
     let ps = places_of a.b w in
-    let h : a.b + 321 ≤ length w = omega (arith, c.known.ensures) in
+    let h : a.b + 321 ≤ length w = omega (arith, c.told-l) in
     let e : crowded a.row.key rs ≡ false = sym c.is_crowded_from.ensures ∙ c.if-is_crowded_from.false in
     let q : marked c.marks_from-marks.result.keep rs ≡ without a.row.key rs = ap (λ (ms : Marks). marked ms.keep rs) c.marks_from-marks.ensures ∙ marks_such (keeps_row (Other a.row.key)) rs in
     let n : c.pack-n.result ≡ length (without a.row.key rs) = c.pack-n.ensures.count.0 ∙ ap length q in

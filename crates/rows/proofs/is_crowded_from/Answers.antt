@@ -14,15 +14,15 @@ returns-then-count-lt-ROWS c =
     let rs = rows_from a.b a.l.now in
     sym (lt-leb 64 (length (without a.key rs)) (omega (arith, such_≤ (keeps_row (Other a.key)) rs)))
 
-pub returns-in-At : goal.returns-in-At
-returns-in-At c =
+pub returns-in-Some : goal.returns-in-Some
+returns-in-Some c =
     let a = c.args in
     let rs = rows_from a.b a.l.now in
-    let h = one_removed a.key rs (sym c.find_from-found.ensures ∙ c.in-At.is) in
+    let h = one_removed a.key rs (sym c.find_from-found.ensures ∙ c.in-Some.is) in
     sym (lt-leb 64 (length (without a.key rs)) (omega arith))
 
-pub returns-in-Nothing : goal.returns-in-Nothing
-returns-in-Nothing c =
+pub returns-in-None : goal.returns-in-None
+returns-in-None c =
     let a = c.args in
     let rs = rows_from a.b a.l.now in
-    rw (none_removed a.key rs (sym c.find_from-found.ensures ∙ c.in-Nothing.is)) (sym (le-leb 64 (length rs) (omega arith)))
+    rw (none_removed a.key rs (sym c.find_from-found.ensures ∙ c.in-None.is)) (sym (le-leb 64 (length rs) (omega arith)))

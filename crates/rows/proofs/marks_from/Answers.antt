@@ -1,5 +1,5 @@
 use Prim.Native.Nat.{◌<◌}
-use mathlib.Core.Path.{◌≡◌, refl, ap, sym, ◌∙◌}
+use mathlib.Core.Path.{◌≡◌, ap, sym, ◌∙◌}
 use mathlib.Core.Bool.{Bool, false}
 use mathlib.Core.List.{List}
 use native.Mathlib.Omega.{arith}
@@ -11,21 +11,6 @@ use Rattle.rows.proofs.Lists.{map_more, map_all}
 use Rattle.rows.proofs.Words.{used_is}
 use Rattle.rows.proofs.marks_from.Goals as goal
 
-pub loop-i-init : goal.loop-i-init
-loop-i-init c = (omega arith, refl)
-
-pub read-requires : goal.read-requires
-read-requires c = (omega arith, omega arith)
-
-pub bounds-marks-i : goal.bounds-marks-i
-bounds-marks-i c = omega arith
-
-pub overflow_add-i : goal.overflow_add-i
-overflow_add-i c = omega arith
-
-pub loop-i-smaller : goal.loop-i-smaller
-loop-i-smaller c = omega arith
-
 pub loop-i-preserved : goal.loop-i-preserved
 loop-i-preserved c =
     let a = c.args in
@@ -35,7 +20,7 @@ loop-i-preserved c =
     let h : x.i < length rs = omega arith in
     let k : x.i < at w a.b = omega (arith, used_is a.b w) in
     let e : c.keeps.result ≡ keeps_row a.keep (get_or rs x.i no_row) = c.keeps.ensures ∙ ap (keeps_row a.keep) (c.read.ensures ∙ sym (get_or-take (at w a.b) (places_of a.b w) x.i no_row k)) in
-    (omega arith, rw (x.invariant.1, e) (map_more (keeps_row a.keep) false rs x.i no_row h (omega arith)))
+    rw (x.invariant, e) (map_more (keeps_row a.keep) false rs x.i no_row h (omega arith))
 
 pub returns : goal.returns
 unfolding marks_by
@@ -43,4 +28,4 @@ returns c =
     let a = c.args in
     let x = c.loop-i in
     let rs = rows_from a.b a.l.now in
-    ap (λ (ms : List Bool). record { keep = ms }) (x.invariant.1 ∙ map_all (keeps_row a.keep) false rs x.i (omega arith))
+    ap (λ (ms : List Bool). record { keep = ms }) (x.invariant ∙ map_all (keeps_row a.keep) false rs x.i (omega arith))

@@ -1,4 +1,4 @@
-use Prim.Native.Nat.{◌≤◌, ◌-◌}
+use Prim.Native.Nat.{◌-◌}
 use mathlib.Core.Path.{◌≡◌}
 use mathlib.Core.Bool.{false}
 use mathlib.Core.List.{◌++◌, map}
@@ -8,7 +8,4 @@ use Rattle.rows.specs.Words.{rows_from}
 use Rattle.rows.proofs.marks_from.Given as goal
 
 abbrev pub invariant-loop-i : goal.invariant-loop-i
-invariant-loop-i l = (l.i ≤ l.n) × (l.marks.keep ≡ map (keeps_row l.keep) (take l.i (rows_from l.b l.l)) ++ replicate (64 - l.i) false)
-
-abbrev pub decreases-loop-i : goal.decreases-loop-i
-decreases-loop-i l = l.n - l.i
+invariant-loop-i l = l.marks.keep ≡ map (keeps_row l.keep) (take l.i (rows_from l.b l.l)) ++ replicate (64 - l.i) false

@@ -1,4 +1,4 @@
-use Prim.Native.Nat.{◌≤◌, ◌-◌}
+use Prim.Native.Nat.{◌≤◌}
 use mathlib.Core.Path.{◌≡◌}
 use lib.ListN.{length, take}
 use Rattle.rows.specs.Rows.{marked}
@@ -7,7 +7,4 @@ use Rattle.rows.proofs.Tables.{Holds}
 use Rattle.rows.proofs.pack.Given as goal
 
 abbrev pub invariant-loop-i : goal.invariant-loop-i
-invariant-loop-i l = (l.i ≤ l.n) × (l.m ≤ l.i) × (l.m ≡ length (marked (take l.i l.marks.keep) (take l.i (rows_from l.b l.initial.l)))) × Holds l.b l.initial.l l.l (filled (marked (take l.i l.marks.keep) (take l.i (rows_from l.b l.initial.l))) (places_of l.b l.initial.l))
-
-abbrev pub decreases-loop-i : goal.decreases-loop-i
-decreases-loop-i l = l.n - l.i
+invariant-loop-i l = (l.m ≤ l.i) × (l.m ≡ length (marked (take l.i l.marks.keep) (take l.i (rows_from l.b l.initial.l)))) × Holds l.b l.initial.l l.l (filled (marked (take l.i l.marks.keep) (take l.i (rows_from l.b l.initial.l))) (places_of l.b l.initial.l))

@@ -1,7 +1,12 @@
-use mathlib.Core.Path.{refl}
-use Rattle.text.proofs.Printing.{parts, laid_part}
-use native.Mathlib.Omega.{arith}
+use Rattle.text.proofs.Printing.{no_room, laid_cut}
 use Rattle.text.proofs.put_text.Goals as goal
 
-pub returns-then-n-out : goal.returns-then-n-out
-returns-then-n-out c = record { bytes = (parts (laid_part _ _ _ _ refl (omega arith) c.copy.ensures)).0; place = (parts (laid_part _ _ _ _ refl (omega arith) c.copy.ensures)).1 }
+pub returns-then-out-at : goal.returns-then-out-at
+returns-then-out-at c =
+    let l = no_room c.args.out.now c.args.at c.args.text.now c.if-out-at.true in
+    record { bytes = l.bytes; place = l.place }
+
+pub returns : goal.returns
+returns c =
+    let l = laid_cut c.args.out.now c.args.at c.min-n.result c.args.text.now c.if-out-at.false c.min-n.ensures c.copy_from_slice.ensures.after in
+    record { bytes = l.bytes; place = l.place }

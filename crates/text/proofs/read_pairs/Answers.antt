@@ -1,34 +1,33 @@
-use mathlib.Core.Path.{refl, ◌∙◌}
+use mathlib.Core.Path.{◌≡◌}
+use mathlib.Core.List.{[]}
+use Prim.Native.Nat.{◌+◌, ◌*◌, ◌/◌, ◌<◌}
+use lib.ListN.{length}
 use native.Mathlib.Omega.{arith}
-use Rattle.text.proofs.Printing.{laid, parts, left_all, left_none, left_more, pair_none, pair_cut, pair_wrong_first, pair_wrong_second, pair_read}
+use Rattle.text.proofs.Printing.{laid, left_all, left_none, left_more, high_digit, low_digit, pair_none, pair_wrong, pair_read}
 use Rattle.text.proofs.read_pairs.Goals as goal
 
-pub loop-i-init : goal.loop-i-init
-loop-i-init c = (omega arith, left_all _ _ _, refl)
+pub loop-a-init : goal.loop-a-init
+loop-a-init c = left_all _ _ _
 
-pub shape_of-out-then-text-i-lt2 : goal.shape_of-out-then-text-i-lt2
-shape_of-out-then-text-i-lt2 c = c.loop-i.invariant.2
+pub loop-a-preserved : goal.loop-a-preserved
+loop-a-preserved c =
+    let s = c.args.text.now in
+    let within : c.loop-a.a-index < length s / 2 = omega arith in
+    let high = high_digit s _ c.loop-a.a-index [] c.as_chunks.ensures.front within c.digit_value-high.ensures in
+    let low = low_digit s _ c.loop-a.a-index [] c.as_chunks.ensures.front within c.digit_value-low.ensures in
+    let next : (c.loop-a.a-index + 1) * 2 ≡ c.loop-a.a-index * 2 + 2 = omega arith in
+    rw next (left_more (rw (pair_read s _ (omega arith) high (omega arith) low (omega arith)) at c.loop-a.invariant) (laid _ _ _ (c.put_byte-p.ensures.bytes, c.put_byte-p.ensures.place)))
 
-pub returns-then-text-i-lt2 : goal.returns-then-text-i-lt2
-returns-then-text-i-lt2 c = record { bytes = (parts (left_none (pair_cut c.args.text.now c.loop-i.i c.loop-i-test.true c.if-text-i-lt2.true) c.loop-i.invariant.1)).0; place = (parts (left_none (pair_cut c.args.text.now c.loop-i.i c.loop-i-test.true c.if-text-i-lt2.true) c.loop-i.invariant.1)).1 }
+pub returns-after-loop-a : goal.returns-after-loop-a
+returns-after-loop-a c =
+    let l = left_none (pair_none c.args.text.now _ (omega arith)) c.loop-a.invariant in
+    record { bytes = l.bytes; place = l.place }
 
-pub shape_of-out-then-a-ge16 : goal.shape_of-out-then-a-ge16
-shape_of-out-then-a-ge16 c = c.loop-i.invariant.2
-
-pub returns-then-a-ge16 : goal.returns-then-a-ge16
-returns-then-a-ge16 c = record { bytes = (parts (left_none (pair_wrong_first c.args.text.now c.loop-i.i (omega arith) c.digit_value-a.ensures c.if-a-ge16.true) c.loop-i.invariant.1)).0; place = (parts (left_none (pair_wrong_first c.args.text.now c.loop-i.i (omega arith) c.digit_value-a.ensures c.if-a-ge16.true) c.loop-i.invariant.1)).1 }
-
-pub shape_of-out-then-b-ge16 : goal.shape_of-out-then-b-ge16
-shape_of-out-then-b-ge16 c = c.loop-i.invariant.2
-
-pub returns-then-b-ge16 : goal.returns-then-b-ge16
-returns-then-b-ge16 c = record { bytes = (parts (left_none (pair_wrong_second c.args.text.now c.loop-i.i (omega arith) c.digit_value-a.ensures c.if-a-ge16.false c.digit_value-b.ensures c.if-b-ge16.true) c.loop-i.invariant.1)).0; place = (parts (left_none (pair_wrong_second c.args.text.now c.loop-i.i (omega arith) c.digit_value-a.ensures c.if-a-ge16.false c.digit_value-b.ensures c.if-b-ge16.true) c.loop-i.invariant.1)).1 }
-
-pub loop-i-preserved : goal.loop-i-preserved
-loop-i-preserved c = (omega arith, left_more (rw (pair_read c.args.text.now c.loop-i.i (omega arith) c.digit_value-a.ensures c.if-a-ge16.false c.digit_value-b.ensures c.if-b-ge16.false) at c.loop-i.invariant.1) (laid _ _ _ (c.put_byte-p.ensures.bytes, c.put_byte-p.ensures.place)), c.put_byte-p.auto.out ∙ c.loop-i.invariant.2)
-
-pub shape_of-out : goal.shape_of-out
-shape_of-out c = c.loop-i.invariant.2
-
-pub returns : goal.returns
-returns c = record { bytes = (parts (left_none (pair_none c.args.text.now c.loop-i.i c.loop-i-test.false) c.loop-i.invariant.1)).0; place = (parts (left_none (pair_none c.args.text.now c.loop-i.i c.loop-i-test.false) c.loop-i.invariant.1)).1 }
+pub returns-then-max-ge16 : goal.returns-then-max-ge16
+returns-then-max-ge16 c =
+    let s = c.args.text.now in
+    let within : c.loop-a.a-index < length s / 2 = omega arith in
+    let high = high_digit s _ c.loop-a.a-index [] c.as_chunks.ensures.front within c.digit_value-high.ensures in
+    let low = low_digit s _ c.loop-a.a-index [] c.as_chunks.ensures.front within c.digit_value-low.ensures in
+    let l = left_none (pair_wrong s _ (omega arith) high low (omega arith)) c.loop-a.invariant in
+    record { bytes = l.bytes; place = l.place }

@@ -1,10 +1,6 @@
-use native.Mathlib.Omega.{arith}
 use Rattle.time.specs.Time.{plus}
+use native.Mathlib.Omega.{arith}
 use Rattle.time.proofs.saturating_add.Goals as goal
-
-pub returns-then-b-a : goal.returns-then-b-a
-unfolding plus
-returns-then-b-a c = omega arith
 
 pub returns : goal.returns
 unfolding plus

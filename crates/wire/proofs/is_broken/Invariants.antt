@@ -1,12 +1,10 @@
--- `wire::is_broken` meets its contract: the invariant: the list is broken just where what is left of it is.
-use mathlib.Core.Path.{◌≡◌}
-use Prim.Native.Nat.{◌≤◌, ◌-◌}
-use lib.ListN.{length, drop}
+-- The invariant: the list is broken just where what is left of it is.
+use Rattle.std.proofs.Common.{◌≡◌, length}
 use Rattle.wire.specs.Lists.{broken}
 use Rattle.wire.proofs.is_broken.Given as goal
 
-abbrev pub invariant-loop-end : goal.invariant-loop-end
-invariant-loop-end l = (l.at ≤ length l.list) × (broken l.list ≡ broken (drop l.at l.list))
+abbrev pub invariant-loop-behind : goal.invariant-loop-behind
+invariant-loop-behind l = broken l.list ≡ broken l.rest
 
-abbrev pub decreases-loop-end : goal.decreases-loop-end
-decreases-loop-end l = length l.list - l.at
+abbrev pub decreases-loop-behind : goal.decreases-loop-behind
+decreases-loop-behind l = length l.rest

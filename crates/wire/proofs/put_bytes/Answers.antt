@@ -1,24 +1,13 @@
--- `wire::put_bytes` meets its contract: the invariant: storing the bytes still to come gives what storing all gives.
-use mathlib.Core.Path.{refl, sym, ◌∙◌}
-use native.Mathlib.Omega.{arith}
-use lib.ListN.{drop, length-set}
-use Rattle.wire.proofs.Stores.{sets_out, copies, copied}
+-- `wire::put_bytes` meets its contract: as many bytes are copied as there is room for.
+use Rattle.std.proofs.Common.{sym, ap, arith, take, drop, ◌+◌, ◌++◌, ◌∙◌, length}
+use borrow.Rule.Slice.PartMut.{Post-is}
+use Rattle.wire.proofs.Stores.{sets_out, sets_within}
 use Rattle.wire.proofs.put_bytes.Goals as goal
 
-pub loop-from-init : goal.loop-from-init
-loop-from-init c = (omega arith, refl, refl)
+pub returns-then-at-out : goal.returns-then-at-out
+returns-then-at-out c =
+    rw (c.copy_from_slice.ensures.after, Post-is c.args.at (c.args.at + c.min-n.result) c.args.out.now (omega arith))
+    (sets_within c.args.out.now c.args.src.now c.args.at (omega arith) c.min-n.ensures)
 
-pub shape_of-out-then-out-to : goal.shape_of-out-then-out-to
-shape_of-out-then-out-to c = c.loop-from.invariant.1
-
-pub returns-then-out-to : goal.returns-then-out-to
-returns-then-out-to c = sym (sets_out c.loop-from.out c.loop-from.to (drop c.loop-from.from c.args.src.now) c.if-out-to.true) ∙ c.loop-from.invariant.2
-
-pub loop-from-preserved : goal.loop-from-preserved
-loop-from-preserved c = (omega arith, simp length-set c.loop-from.invariant.1, copies _ _ _ _ c.loop-from-test.true ∙ c.loop-from.invariant.2)
-
-pub shape_of-out : goal.shape_of-out
-shape_of-out c = c.loop-from.invariant.1
-
-pub returns : goal.returns
-returns c = sym (copied _ _ _ _ c.loop-from-test.false) ∙ c.loop-from.invariant.2
+pub returns-else-at-out : goal.returns-else-at-out
+returns-else-at-out c = sym (sets_out c.args.out.now c.args.at c.args.src.now c.if-at-out.false)

@@ -1,20 +1,23 @@
--- `wire::span` meets its contract: the invariant: the span of the whole is that of what is left, behind the bytes passed.
-use native.Mathlib.Omega.{arith}
-use Rattle.wire.proofs.Spans.{after_none, cut_short, found, goes_on, ten_passed}
-use borrow.Author.Rules.{rules}
+-- The place of the byte that ends the varint, of the first ten.
+use mathlib.Core.Path.{◌≡◌, sym, ap, ◌∙◌}
+use Rattle.std.proofs.Common.{rules, tests}
+use Rattle.std.proofs.lemmas.Iterator.{YieldsList-from_slice, YieldsList-from_take}
+use Rattle.std.proofs.lemmas.Iterator.Consumers.{YieldsList-at}
+use Rattle.std.proofs.lemmas.Iterator.Search.{position_from_yields_List}
+use lib.ListN.{take}
+use Rattle.std.specs.List.{position}
+use Rattle.wire.proofs.Spans.{ends, length_to, span_to_last}
 use Rattle.wire.proofs.span.Goals as goal
+use Rattle.wire.proofs.span.Goals.{After-position}
 
-pub loop-i-init : goal.loop-i-init
-loop-i-init c = (search rules, after_none _)
+last_is : (c : After-position) → c.position.result ≡ position ends (take 10 c.args.s.now)
+last_is c =
+    position_from_yields_List ends _ _ c.position.result c.position.ensures.ran
+    (YieldsList-from_take 10 (YieldsList-at c.take.ensures.source (YieldsList-from_slice c.args.s.now cc)) c.take.ensures.count)
+    (λ x b q k. search (rules, tests))
 
-pub returns-then-s-i : goal.returns-then-s-i
-returns-then-s-i c = cut_short _ _ c.loop-i-test.true c.loop-i.invariant.1 c.if-s-i.true
+pub returns-in-Some : goal.returns-in-Some
+returns-in-Some c = ap length_to (sym c.in-Some.is ∙ last_is (goal.at.returns-in-Some c).After-position) ∙ span_to_last 10 c.args.s.now
 
-pub returns-then-s-i-lt128 : goal.returns-then-s-i-lt128
-returns-then-s-i-lt128 c = found _ _ (omega arith) c.loop-i.invariant.1 (omega arith) (omega arith)
-
-pub loop-i-preserved : goal.loop-i-preserved
-loop-i-preserved c = (search rules, goes_on _ _ (omega arith) c.loop-i.invariant.1 (omega arith) (omega arith))
-
-pub returns : goal.returns
-returns c = ten_passed _ _ c.loop-i-test.false c.loop-i.invariant.1
+pub returns-in-None : goal.returns-in-None
+returns-in-None c = ap length_to (sym c.in-None.is ∙ last_is (goal.at.returns-in-None c).After-position) ∙ span_to_last 10 c.args.s.now

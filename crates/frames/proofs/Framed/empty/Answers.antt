@@ -6,4 +6,4 @@ use Rattle.frames.specs.declared.Framed.{Framed}
 use Rattle.frames.proofs.Framed.empty.Goals as goal
 
 pub returns : goal.returns
-returns c = ap {B = Framed} (λ (b : List ℕ). record { bytes = b; len = 0 }) c.blank-bytes.ensures
+returns c = ap {B = Framed} (λ (b : List ℕ). record { bytes = b; len = 0 }) c.blank.ensures

@@ -10,26 +10,14 @@ use Rattle.ledger_calls.proofs.records.put_tokens.Goals as goal
 
 pub loop-i-init : goal.loop-i-init
 unfolding up_to
-loop-i-init c = (omega arith, laid_none _ _, refl)
-
-pub offset_bounds-list-i : goal.offset_bounds-list-i
-offset_bounds-list-i c = omega (arith, c.least-n.ensures)
-
-pub bounds-list-i : goal.bounds-list-i
-bounds-list-i c = omega (arith, c.least-n.ensures)
-
-pub overflow_add-i : goal.overflow_add-i
-overflow_add-i c = omega (arith, c.least-n.ensures)
-
-pub loop-i-smaller : goal.loop-i-smaller
-loop-i-smaller c = omega (arith, c.least-n.ensures)
+loop-i-init c = (laid_none _ _, refl)
 
 pub loop-i-preserved : goal.loop-i-preserved
 loop-i-preserved c =
-    let b : c.loop-i.i < length c.args.list.tokens = omega (arith, c.least-n.ensures) in
+    let b : c.loop-i.i < length c.args.list.tokens = omega (arith, c.min-n.ensures) in
     let e = laid _ _ _ (c.put_number-p.ensures.bytes, c.put_number-p.ensures.place) in
-    (omega (arith, c.least-n.ensures), number_next (token_at c.args.list) _ c.loop-i.invariant.1 (number_at (λ (v : NatToken). v.0) c.args.list.tokens c.loop-i.i _ (record { 0 = 0 }) b e), length_kept e ∙ c.loop-i.invariant.2)
+    (number_next (token_at c.args.list) _ c.loop-i.invariant.0 (number_at (λ (v : NatToken). v.0) c.args.list.tokens c.loop-i.i _ (record { 0 = 0 }) b e), length_kept e ∙ c.loop-i.invariant.1)
 
 pub returns : goal.returns
 unfolding tokens_bytes
-returns c = record { bytes = (parts (numbers_all (token_at c.args.list) (omega (arith, c.least-n.ensures)) c.loop-i.invariant.1)).0; place = (parts (numbers_all (token_at c.args.list) (omega (arith, c.least-n.ensures)) c.loop-i.invariant.1)).1 }
+returns c = record { bytes = (parts (numbers_all (token_at c.args.list) (omega (arith, c.min-n.ensures)) c.loop-i.invariant.0)).0; place = (parts (numbers_all (token_at c.args.list) (omega (arith, c.min-n.ensures)) c.loop-i.invariant.0)).1 }

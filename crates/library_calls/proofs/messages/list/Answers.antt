@@ -1,11 +1,9 @@
-use mathlib.Core.Path.{sym}
+use Rattle.std.proofs.Common.{sym, inl, ap, arith, length}
+use Rattle.std.proofs.lemmas.Iterator.Consumers.{YieldsList-from_rest, count_from_yields_List}
+use Rattle.wire.specs.Lists.{entries}
+use Rattle.wire.proofs.EntryByEntry.{entries_few}
 use Rattle.library_calls.specs.Messages.{list_said}
 use Rattle.library_calls.proofs.messages.list.Goals as goal
 
-pub returns-then-is_broken : goal.returns-then-is_broken
-unfolding list_said
-returns-then-is_broken c = simp (sym c.say.ensures, c.if-is_broken.true, sym c.is_broken.ensures)
-
-pub returns : goal.returns
-unfolding list_said
-returns c = simp (sym c.say-2.ensures, c.if-is_broken.false, sym c.is_broken.ensures, sym c.count-n.ensures)
+pub count-n-requires-clause-fits : goal.count-n-requires-clause-fits
+count-n-requires-clause-fits c = inl (omega (arith, ap length c.entries.ensures, entries_few c.args.bytes.now))
