@@ -21,15 +21,8 @@ fn part_of(s: &[u8], separator: u8, k: usize) -> Part
     ensures within { (result.start ≤ result.end) × (result.end ≤ length s.now) }
 {
     let mut at: usize = 0;
-    let mut left = k;
-    loop {
+    for _ in 0..k {
         let end = at + text::length_before(&s[at..], separator);
-        if left == 0 {
-            return Part {
-                start: at,
-                end: end,
-            };
-        }
         if s.len() <= end {
             return Part {
                 start: s.len(),
@@ -37,7 +30,10 @@ fn part_of(s: &[u8], separator: u8, k: usize) -> Part
             };
         }
         at = end + 1;
-        left -= 1;
+    }
+    Part {
+        start: at,
+        end: at + text::length_before(&s[at..], separator),
     }
 }
 
@@ -90,8 +86,7 @@ fn no_call() -> Call
 pub fn call_of(table: &[u8], line: &[u8]) -> Call
     ensures { result ≡ call_of table.now line.now }
 {
-    let mut k: usize = 0;
-    while k < table.len() {
+    for k in 0..table.len() {
         let p = part_of(table, b'\n', k);
         let start = p.start;
         let end = p.end;
@@ -107,7 +102,6 @@ pub fn call_of(table: &[u8], line: &[u8]) -> Call
                 words: words,
             };
         }
-        k += 1;
     }
     no_call()
 }

@@ -108,10 +108,10 @@ module _ (l : Limits) (source : Source) (xs : List (List ℕ)) (a : List ℕ) {p
     wanted_room t c h = rw (sym q ∙ e) (rw (sym s ∙ t) (h ∙ ap (λ (x : Counts). room_for l x port) c))
 
 -- ---- the answer
-pub answer_refused : (s : List ℕ) (xs : List (List ℕ)) {b : Bool} {c : Chosen} → b ≡ broken s → b ≡ true → c ≡ packed [] → record { outcome = Err BrokenList; chosen = c } ≡ answered s xs
+pub answer_refused : (s : List ℕ) (xs : List (List ℕ)) {b : Bool} → b ≡ broken s → b ≡ true → Err BrokenList ≡ answered s xs
 unfolding answered
-answer_refused s xs e t q = rw (sym e ∙ t, q)
+answer_refused s xs e t = rw (sym e ∙ t)
 
-pub answer_kept : (s : List ℕ) (xs : List (List ℕ)) {b : Bool} {c : Chosen} → b ≡ broken s → b ≡ false → c ≡ packed (listed xs) → record { outcome = Ok tt; chosen = c } ≡ answered s xs
+pub answer_kept : (s : List ℕ) (xs : List (List ℕ)) {b : Bool} {c : Chosen} → b ≡ broken s → b ≡ false → c ≡ packed (listed xs) → Ok c ≡ answered s xs
 unfolding answered
 answer_kept s xs e t q = rw (sym e ∙ t, q)

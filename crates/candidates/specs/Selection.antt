@@ -1,8 +1,9 @@
 -- Which addresses are kept (RULES.md, section 7).
-use Rattle.std.specs.Prelude.{ℕ, ◌+◌, ◌*◌, Bool, leb, ltb, length, Err, Ok}
+use Rattle.std.specs.Prelude.{ℕ, ◌+◌, ◌*◌, Bool, leb, ltb, length, Result, Err, Ok}
 use mathlib.Core.List.{List, [], ◌∷◌, ◌++◌, foldl}
 use Rattle.prelude.specs.Lists.{padded, count, such}
 use Rattle.prelude.specs.Choice.{pick, both}
+use Rattle.refusal.specs.declared.Refusal.{Refusal}
 use Rattle.refusal.specs.declared.Refusal.TheVariants.{BrokenList}
 use Rattle.wire.specs.Lists.{broken, listed}
 use Rattle.address.specs.Multiaddr.{longest4, longest6}
@@ -14,7 +15,6 @@ use Rattle.candidates.specs.declared.Limits.{Limits}
 use Rattle.candidates.specs.declared.Terms.{Terms}
 use Rattle.candidates.specs.declared.Counts.{Counts}
 use Rattle.candidates.specs.declared.Chosen.{Chosen}
-use Rattle.candidates.specs.declared.Selection.{Selection}
 
 abbrev pub usual : Limits
 usual = record { total = 8; family = 4; ip = 2; port = 1024 }
@@ -93,7 +93,5 @@ abbrev pub packed : List ℕ → Chosen
 packed s = record { bytes = padded capacity 0 s; len = length s }
 
 -- the answer for a list s of which xs are kept
-unfoldable pub answered : List ℕ → List (List ℕ) → Selection
-answered s xs =
-    pick (broken s) (record { outcome = Err BrokenList; chosen = packed [] })
-    (record { outcome = Ok tt; chosen = packed (listed xs) })
+unfoldable pub answered : List ℕ → List (List ℕ) → Result Chosen Refusal
+answered s xs = pick (broken s) (Err BrokenList) (Ok (packed (listed xs)))

@@ -39,13 +39,6 @@ pub struct Chosen {
     pub len: usize,
 }
 
-// A refused list has nothing chosen.
-#[derive(Clone, Copy)]
-pub struct Selection {
-    pub outcome: Result<(), Refusal>,
-    pub chosen: Chosen,
-}
-
 #[derive(Clone, Copy)]
 pub struct Limits {
     pub total: usize,
@@ -215,23 +208,17 @@ fn choose(l: Limits, list: &[u8], source: Source) -> Chosen
     Chosen { bytes, len }
 }
 
-fn chosen_from(l: Limits, list: &[u8], source: Source) -> Selection
+fn chosen_from(l: Limits, list: &[u8], source: Source) -> Result<Chosen, Refusal>
     ensures { result ≡ answered list.now (foldl (kept_from (held l) source) [] (entries list.now)) }
 {
     if wire::is_broken(list) {
-        return Selection {
-            outcome: Err(Refusal::BrokenList),
-            chosen: Chosen::empty(),
-        };
+        return Err(Refusal::BrokenList);
     }
-    Selection {
-        outcome: Ok(()),
-        chosen: choose(l.held(), list, source),
-    }
+    Ok(choose(l.held(), list, source))
 }
 
 // The peer's addresses that may be targets, bounded. Limits are any: a total over the most counts as the most, here and below.
-pub fn select_punch_candidates(list: &[u8], terms: Terms) -> Selection
+pub fn select_punch_candidates(list: &[u8], terms: Terms) -> Result<Chosen, Refusal>
     ensures { result ≡ answered list.now (selected (held_terms terms) (entries list.now)) }
 {
     let Terms { limits, private } = terms;
@@ -239,14 +226,14 @@ pub fn select_punch_candidates(list: &[u8], terms: Terms) -> Selection
 }
 
 // One's own addresses, each form once, bounded.
-pub fn own_punch_candidates(list: &[u8], limits: Limits) -> Selection
+pub fn own_punch_candidates(list: &[u8], limits: Limits) -> Result<Chosen, Refusal>
     ensures { result ≡ answered list.now (own (held limits) (entries list.now)) }
 {
     chosen_from(limits, list, Source::Own)
 }
 
 // The first addresses that the limits allow, whatever their ranges.
-pub fn bound_punch_candidates(list: &[u8], limits: Limits) -> Selection
+pub fn bound_punch_candidates(list: &[u8], limits: Limits) -> Result<Chosen, Refusal>
     ensures { result ≡ answered list.now (bounded (held limits) (entries list.now)) }
 {
     chosen_from(limits, list, Source::Any)

@@ -1,69 +1,53 @@
--- A loop that gathers what the rows give, one after another: rows that stay, tokens, connections. Assumes nothing.
--- the array holds what the first i rows give, n values
+-- A loop that gathers what the rows give, one after another: tokens, connections. Assumes nothing.
+-- the column holds what the first i rows give
 use Prim.Native.Nat.{ℕ, ◌≤◌, ◌<◌, ◌+◌}
-use mathlib.Core.Path.{◌≡◌, refl, ap, sym, ◌∙◌, subst}
+use mathlib.Core.Path.{◌≡◌, refl, ap, sym, ◌∙◌}
 use mathlib.Core.List.{List, [], ◌∷◌, ◌++◌, append-nil}
 use native.Mathlib.Omega.{arith}
-use lib.ListN.{set, length, get_or, take}
+use lib.ListN.{length, get_or, take}
 use lib.Seq.{take_all}
-use Rattle.prelude.specs.Lists.{padded}
 use Rattle.ids.specs.declared.NatToken.{NatToken}
 use Rattle.ids.specs.declared.ConnectionId.{ConnectionId}
+use Rattle.dials.specs.declared.Column.{Column}
 use Rattle.kinds.specs.declared.Row.{Row}
 use Rattle.rows.specs.Words.{no_row}
-use Rattle.dials.specs.declared.First.{First}
-use Rattle.dials.specs.declared.Firsts.{Firsts}
+use Rattle.std.specs.Prelude.{Option, None}
 use mathlib.Core.Logic.{◌⊎◌, inl, inr}
 use Rattle.dials.specs.declared.Fate.{Fate}
 use Rattle.dials.specs.declared.Fate.TheVariants.{Other, Stays, Goes, Closes}
-use Rattle.dials.specs.Dials.{retired_by, closed_by, each, pairs, no_first, tokens_of, connections_of}
-use Rattle.dials.proofs.Fill.{Filled, fill_more}
+use Rattle.dials.specs.Dials.{retired_by, closed_by, each, pairs, column_of, pushed}
+use Rattle.dials.proofs.Fill.{pushed_column, all_held}
 use Rattle.dials.proofs.Each.{each_more, length_pairs}
 
-pub record Gathered {C : Type 0} (z : C) (f : Row × First → List C) (rs : List Row) (firsts : Firsts) (i : ℕ) (array : List C) (n : ℕ) : Type 0 where
-  pub count_≤ : n ≤ i
-  pub values : Filled z array n (each f (take i (pairs rs firsts.rows)))
+pub record Gathered {C : Type 0} (z : C) (f : Row × Option ConnectionId → List C) (rs : List Row) (firsts : List (Option ConnectionId)) (i : ℕ) (column : Column C) : Type 0 where
+  pub count_≤ : column.count ≤ i
+  pub holds : column ≡ column_of z (each f (take i (pairs rs firsts)))
 
-module _ {C : Type 0} {z : C} {f : Row × First → List C} {rs : List Row} {firsts : Firsts} {array : List C} where
-  pub none_yet : array ≡ padded 64 z [] → Gathered z f rs firsts 0 array 0
-  unfolding each
-  none_yet e = record { count_≤ = omega arith; values = record { array_is = e; count_is = refl } }
+module _ {C : Type 0} {z : C} {f : Row × Option ConnectionId → List C} {rs : List Row} {firsts : List (Option ConnectionId)} where
+  pub none_yet : {column : Column C} → column ≡ column_of z [] → Gathered z f rs firsts 0 column
+  unfolding each column_of
+  none_yet e = record { count_≤ = omega (arith, ap (λ (c : Column C). c.count) e); holds = e }
 
-  module _ {i n : ℕ} (g : Gathered z f rs firsts i array n) where
-    module _ (l : i < length rs) (h : length rs ≤ length firsts.rows) where
-      more : {given : List C} → f (get_or rs i no_row, get_or firsts.rows i no_first) ≡ given
-          → each f (take i (pairs rs firsts.rows)) ++ given ≡ each f (take (i + 1) (pairs rs firsts.rows))
-      more e = sym (each_more rs i firsts.rows no_row no_first l h f ∙ ap (λ (t : List C). each f (take i (pairs rs firsts.rows)) ++ t) e)
+  module _ {i : ℕ} {column : Column C} (g : Gathered z f rs firsts i column) where
+    module _ (l : i < length rs) (h : length rs ≤ length firsts) where
+      more : {given : List C} → f (get_or rs i no_row, get_or firsts i None) ≡ given
+          → each f (take i (pairs rs firsts)) ++ given ≡ each f (take (i + 1) (pairs rs firsts))
+      more e = sym (each_more rs i firsts no_row None l h f ∙ ap (λ (t : List C). each f (take i (pairs rs firsts)) ++ t) e)
 
-      pub gives : {y : C} → f (get_or rs i no_row, get_or firsts.rows i no_first) ≡ y ∷ [] → i < 64 → Gathered z f rs firsts (i + 1) (set array n y) (n + 1)
-      gives {y} e b = record {
-        count_≤ = omega arith;
-        values = subst (Filled z (set array n y) (n + 1)) (more e) (fill_more g.values y (omega arith));
-      }
+      pub gives : {y : C} → f (get_or rs i no_row, get_or firsts i None) ≡ y ∷ [] → i < 64 → Gathered z f rs firsts (i + 1) (pushed column y)
+      gives {y} e b =
+          let few = all_held z (each f (take i (pairs rs firsts))) g.holds (omega (arith, g.count_≤)) in
+          record {
+            count_≤ = omega (arith, g.count_≤);
+            holds = ap (λ (c : Column C). pushed c y) g.holds ∙ pushed_column z (each f (take i (pairs rs firsts))) y few ∙ ap (column_of z) (more e);
+          }
 
-      pub gives_none : f (get_or rs i no_row, get_or firsts.rows i no_first) ≡ [] → Gathered z f rs firsts (i + 1) array n
-      gives_none e = record {
-        count_≤ = omega arith;
-        values = subst (Filled z array n) (sym (append-nil _) ∙ more e) g.values;
-      }
+      pub gives_none : f (get_or rs i no_row, get_or firsts i None) ≡ [] → Gathered z f rs firsts (i + 1) column
+      gives_none e = record { count_≤ = omega (arith, g.count_≤); holds = g.holds ∙ ap (column_of z) (sym (append-nil _) ∙ more e) }
 
     -- after the last row
-    pub all_given : length rs ≤ i → length rs ≤ length firsts.rows → Filled z array n (each f (pairs rs firsts.rows))
-    all_given o h = subst (λ (ps : List (Row × First)). Filled z array n (each f ps)) (take_all i (pairs rs firsts.rows) (omega (arith, length_pairs rs firsts.rows h))) g.values
-
-abbrev pub no_token : NatToken
-no_token = record { 0 = 0 }
-
-pub filled_tokens : {tokens : List NatToken} {count : ℕ} {ts : List NatToken} → Filled no_token tokens count ts → record { tokens = tokens; count = count } ≡ tokens_of ts
-unfolding tokens_of
-filled_tokens f = simp (f.array_is, f.count_is)
-
-abbrev pub no_connection : ConnectionId
-no_connection = record { 0 = 0 }
-
-pub filled_connections : {connections : List ConnectionId} {count : ℕ} {cs : List ConnectionId} → Filled no_connection connections count cs → record { connections = connections; count = count } ≡ connections_of cs
-unfolding connections_of
-filled_connections f = simp (f.array_is, f.count_is)
+    pub all_given : length rs ≤ i → length rs ≤ length firsts → column ≡ column_of z (each f (pairs rs firsts))
+    all_given o h = g.holds ∙ ap (λ (ps : List (Row × Option ConnectionId)). column_of z (each f ps)) (take_all i (pairs rs firsts) (omega (arith, length_pairs rs firsts h)))
 
 -- ---- what a dial's fate gives
 pub token_given : (t : Fate) (x : NatToken) → (t ≡ Stays x) ⊎ ((t ≡ Goes x) ⊎ (t ≡ Closes x)) → retired_by t ≡ x ∷ []

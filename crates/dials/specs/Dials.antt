@@ -1,7 +1,7 @@
 -- Dropping the dials of an attempt (RULES.md, section 10.4).
 -- ---- the live connections
 -- the peer to ask for: the relay of a relay dial, else the attempt's target
-use Rattle.std.specs.Prelude.{ℕ, Bool, true, false, List, [], ◌∷◌, ◌++◌, map, length, take, replicate, eqb, None, Option, Some}
+use Rattle.std.specs.Prelude.{ℕ, Bool, true, false, List, [], ◌∷◌, ◌++◌, map, length, set, take, replicate, ◌+◌, eqb, None, Option, Some}
 use Rattle.prelude.specs.Lists.{padded}
 use Rattle.prelude.specs.Choice.{pick}
 use Rattle.ids.specs.declared.PeerId.{PeerId}
@@ -14,15 +14,11 @@ use Rattle.path.specs.declared.Dial.{Dial}
 use Rattle.kinds.specs.declared.Entry.{Entry}
 use Rattle.kinds.specs.declared.Entry.TheVariants.{Other as OtherEntry, Dialed, Window, Path as PathEntry}
 use Rattle.kinds.specs.declared.Row.{Row}
-use Rattle.rows.specs.declared.Marks.{Marks}
 use Rattle.kinds.specs.Kinds.{entry_of}
 use Rattle.rows.specs.Rows.{capacity}
-use Rattle.dials.specs.declared.First.{First}
-use Rattle.dials.specs.declared.Firsts.{Firsts}
 use Rattle.dials.specs.declared.Fate.{Fate}
 use Rattle.dials.specs.declared.Fate.TheVariants.{Other, Stays, Goes, Closes}
-use Rattle.dials.specs.declared.Tokens.{Tokens}
-use Rattle.dials.specs.declared.Connections.{Connections}
+use Rattle.dials.specs.declared.Column.{Column}
 use Rattle.dials.specs.declared.Dropped.{Dropped}
 
 unfoldable pub asked_by : DialPurpose → PeerId → PeerId
@@ -41,15 +37,12 @@ unfoldable pub asked_of : PeerId → Row → PeerId
 asked_of target row = asked_entry (entry_of row) target
 
 -- what is found for a row
-unfoldable pub first_for : PeerId → (PeerId → Option ConnectionId) → Row → First
-first_for target first row = record { live = first (asked_of target row) }
-
-abbrev pub no_first : First
-no_first = record { live = None }
+unfoldable pub first_for : PeerId → (PeerId → Option ConnectionId) → Row → Option ConnectionId
+first_for target first row = first (asked_of target row)
 
 -- nothing found for any row
-abbrev pub no_firsts : Firsts
-no_firsts = record { rows = replicate capacity no_first }
+abbrev pub no_firsts : List (Option ConnectionId)
+no_firsts = replicate capacity None
 
 -- ---- what becomes of a dial
 unfoldable pub is_first : Option ConnectionId → ℕ → Bool
@@ -72,8 +65,8 @@ fate_entry (Dialed dial) id live = fate_of id live dial
 fate_entry (Window end) id live = Other
 fate_entry (PathEntry attribution) id live = Other
 
-unfoldable pub fate_at : ConnectId → Row → First → Fate
-fate_at id row first = fate_entry (entry_of row) id (is_first first.live row.key)
+unfoldable pub fate_at : ConnectId → Row → Option ConnectionId → Fate
+fate_at id row first = fate_entry (entry_of row) id (is_first first row.key)
 
 -- its row stays
 unfoldable pub stays : Fate → Bool
@@ -111,29 +104,37 @@ pairs [] bs = []
 pairs (a ∷ as') [] = []
 pairs (a ∷ as') (b ∷ bs) = (a, b) ∷ pairs as' bs
 
-unfoldable pub tokens_of : List NatToken → Tokens
-tokens_of ts = record { tokens = padded capacity (record { 0 = 0 }) (take capacity ts); count = length (take capacity ts) }
+-- the first 64 of the values, and fill behind them
+unfoldable pub column_of : {A : Type 0} → A → List A → Column A
+column_of fill xs = record { values = padded capacity fill (take capacity xs); count = length (take capacity xs) }
 
-unfoldable pub connections_of : List ConnectionId → Connections
-connections_of cs = record { connections = padded capacity (record { 0 = 0 }) (take capacity cs); count = length (take capacity cs) }
+-- one value more
+abbrev pub pushed : {A : Type 0} → Column A → A → Column A
+pushed column x = record { values = set column.values column.count x; count = column.count + 1 }
+
+abbrev pub no_token : NatToken
+no_token = record { 0 = 0 }
+
+abbrev pub no_connection : ConnectionId
+no_connection = record { 0 = 0 }
 
 -- of a row and what is found for it
-abbrev pub left_of : ConnectId → Row × First → List Row
+abbrev pub left_of : ConnectId → Row × Option ConnectionId → List Row
 left_of id p = left_by p.0 (fate_at id p.0 p.1)
 
-abbrev pub retired_of : ConnectId → Row × First → List NatToken
+abbrev pub retired_of : ConnectId → Row × Option ConnectionId → List NatToken
 retired_of id p = retired_by (fate_at id p.0 p.1)
 
-abbrev pub closed_of : ConnectId → Row × First → List ConnectionId
+abbrev pub closed_of : ConnectId → Row × Option ConnectionId → List ConnectionId
 closed_of id p = closed_by p.0 (fate_at id p.0 p.1)
 
 -- a mark for each row: whether it stays
-unfoldable pub staying : ConnectId → List (Row × First) → Marks
-staying id ps = record { keep = padded capacity false (map (λ (p : Row × First). stays (fate_at id p.0 p.1)) ps) }
+unfoldable pub staying : ConnectId → List (Row × Option ConnectionId) → List Bool
+staying id ps = padded capacity false (map (λ (p : Row × Option ConnectionId). stays (fate_at id p.0 p.1)) ps)
 
-unfoldable pub abort_with : ConnectId → List (Row × First) → Dropped
-abort_with id ps = record { retired = tokens_of (each (retired_of id) ps); close = connections_of (each (closed_of id) ps) }
+unfoldable pub abort_with : ConnectId → List (Row × Option ConnectionId) → Dropped
+abort_with id ps = record { retired = column_of no_token (each (retired_of id) ps); close = column_of no_connection (each (closed_of id) ps) }
 
 -- each row with what is found for it
-abbrev pub with_firsts : PeerId → (PeerId → Option ConnectionId) → List Row → List (Row × First)
+abbrev pub with_firsts : PeerId → (PeerId → Option ConnectionId) → List Row → List (Row × Option ConnectionId)
 with_firsts target first rs = map (λ (r : Row). (r, first_for target first r)) rs

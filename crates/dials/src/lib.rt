@@ -1,10 +1,11 @@
 // Dropping the dials of a connect attempt (`abort_attempt_dials` of ledger.rs), over the table of dials.
 #![tactic(auto)]
 
-ghost use Rattle.std.specs.Prelude.{◌≡◌, []};
+ghost use Rattle.std.specs.Prelude.{◌≡◌, ◌<◌, []};
 ghost use Rattle.rows.specs.declared.Table.TheVariants.{Dials};
+ghost use Rattle.rows.specs.Rows.{capacity};
 ghost use Rattle.rows.specs.Words.{rows_of, laid};
-ghost use Rattle.dials.specs.Dials.{tokens_of, connections_of, no_firsts, asked_by, asked_of, is_first, fate_of, fate_at, stays, staying, each, pairs, left_of, retired_of, closed_of, abort_with};
+ghost use Rattle.dials.specs.Dials.{column_of, pushed, no_token, no_connection, no_firsts, asked_by, asked_of, is_first, fate_of, fate_at, stays, staying, each, pairs, left_of, retired_of, closed_of, abort_with};
 
 use ids::{ConnectId, ConnectionId, NatToken, PeerId};
 use kinds::{Entry, Row};
@@ -12,34 +13,21 @@ use path::{Dial, DialPurpose};
 use rows::{Ledger, Marks, ROWS, Table};
 use std::array;
 
-#[derive(Clone, Copy)]
-pub struct First {
-    pub live: Option<ConnectionId>,
-}
-
 // The first live connection of the peer to ask for, for each row of the table.
-#[derive(Clone, Copy)]
-pub struct Firsts {
-    pub rows: [First; ROWS],
-}
+pub type Firsts = [Option<ConnectionId>; ROWS];
 
+// What rows of the table give, at most one value each, in the order of the rows; fill behind it.
 #[derive(Clone, Copy)]
-pub struct Tokens {
-    pub tokens: [NatToken; ROWS],
+pub struct Column<T> {
+    pub values: [T; ROWS],
     pub count: u64,
 }
 
-#[derive(Clone, Copy)]
-pub struct Connections {
-    pub connections: [ConnectionId; ROWS],
-    pub count: u64,
-}
-
-// The tokens that were retired and the connections to close, in the order of the rows.
+// The tokens that were retired and the connections to close.
 #[derive(Clone, Copy)]
 pub struct Dropped {
-    pub retired: Tokens,
-    pub close: Connections,
+    pub retired: Column<NatToken>,
+    pub close: Column<ConnectionId>,
 }
 
 // What becomes of a dial.
@@ -55,34 +43,29 @@ pub enum Fate {
     Closes(NatToken),
 }
 
-#[tactic(auto, unfolding(crate::specs::Dials::tokens_of))]
-fn no_tokens() -> Tokens
-    ensures { result ≡ tokens_of [] }
+#[tactic(auto, unfolding(crate::specs::Dials::column_of))]
+fn empty_column<T: Copy>(fill: T) -> Column<T>
+    ensures { result ≡ column_of fill [] }
 {
-    let none = NatToken(0);
-    Tokens {
-        tokens: [none; ROWS],
+    Column {
+        values: [fill; ROWS],
         count: 0,
     }
 }
 
-#[tactic(auto, unfolding(crate::specs::Dials::connections_of))]
-fn no_connections() -> Connections
-    ensures { result ≡ connections_of [] }
+fn push<T: Copy>(column: &mut Column<T>, value: T)
+    requires { column.old.count < capacity }
+    ensures { column.new ≡ pushed column.old value }
 {
-    let none = ConnectionId(0);
-    Connections {
-        connections: [none; ROWS],
-        count: 0,
-    }
+    column.values[column.count as usize] = value;
+    column.count += 1;
 }
 
 // Nothing found for any row.
 pub fn no_firsts() -> Firsts
     ensures { result ≡ no_firsts }
 {
-    let none = First { live: None };
-    Firsts { rows: [none; ROWS] }
+    [None; ROWS]
 }
 
 // The peer to ask for: the relay of a relay dial, else the attempt's target.
@@ -142,11 +125,11 @@ fn fate_of(dial: Dial, id: ConnectId, live: bool) -> Fate
 }
 
 #[tactic(auto, unfolding(crate::specs::Dials::fate_at))]
-fn fate_at(row: Row, id: ConnectId, first: First) -> Fate
+fn fate_at(row: Row, id: ConnectId, first: Option<ConnectionId>) -> Fate
     ensures { result ≡ fate_at id row first }
 {
     match kinds::entry_of(row) {
-        Entry::Dialed(dial) => fate_of(dial, id, is_first(first.live, row.key)),
+        Entry::Dialed(dial) => fate_of(dial, id, is_first(first, row.key)),
         Entry::Other | Entry::Window(_) | Entry::Path(_) => Fate::Other,
     }
 }
@@ -160,27 +143,24 @@ fn stays_with(fate: Fate) -> bool
 
 // The rows that stay.
 fn staying_of(l: &Ledger, id: ConnectId, firsts: Firsts) -> Marks
-    ensures { result ≡ staying id (pairs (rows_of Dials l.now) firsts.rows) }
+    ensures { result ≡ staying id (pairs (rows_of Dials l.now) firsts) }
 {
     let n = rows::used(l, Table::Dials);
-    Marks {
-        keep: array::from_fn(|i| {
-            i < n && stays_with(fate_at(rows::row_at(l, Table::Dials, i), id, firsts.rows[i]))
-        }),
-    }
+    array::from_fn(|i| {
+        i < n && stays_with(fate_at(rows::row_at(l, Table::Dials, i), id, firsts[i]))
+    })
 }
 
 // The tokens of the attempt's dials.
-fn retired_of(l: &Ledger, id: ConnectId, firsts: Firsts) -> Tokens
-    ensures { result ≡ tokens_of (each (retired_of id) (pairs (rows_of Dials l.now) firsts.rows)) }
+fn retired_of(l: &Ledger, id: ConnectId, firsts: Firsts) -> Column<NatToken>
+    ensures { result ≡ column_of no_token (each (retired_of id) (pairs (rows_of Dials l.now) firsts)) }
 {
-    let mut retired = no_tokens();
+    let mut retired = empty_column(NatToken(0));
     for i in 0..rows::used(l, Table::Dials) {
-        match fate_at(rows::row_at(l, Table::Dials, i), id, firsts.rows[i]) {
+        match fate_at(rows::row_at(l, Table::Dials, i), id, firsts[i]) {
             Fate::Other => {}
             Fate::Stays(token) | Fate::Goes(token) | Fate::Closes(token) => {
-                retired.tokens[retired.count as usize] = token;
-                retired.count += 1;
+                push(&mut retired, token);
             }
         }
     }
@@ -188,15 +168,14 @@ fn retired_of(l: &Ledger, id: ConnectId, firsts: Firsts) -> Tokens
 }
 
 // The connections to close.
-fn closed_of(l: &Ledger, id: ConnectId, firsts: Firsts) -> Connections
-    ensures { result ≡ connections_of (each (closed_of id) (pairs (rows_of Dials l.now) firsts.rows)) }
+fn closed_of(l: &Ledger, id: ConnectId, firsts: Firsts) -> Column<ConnectionId>
+    ensures { result ≡ column_of no_connection (each (closed_of id) (pairs (rows_of Dials l.now) firsts)) }
 {
-    let mut close = no_connections();
+    let mut close = empty_column(ConnectionId(0));
     for i in 0..rows::used(l, Table::Dials) {
         let row = rows::row_at(l, Table::Dials, i);
-        if let Fate::Closes(_) = fate_at(row, id, firsts.rows[i]) {
-            close.connections[close.count as usize] = ConnectionId(row.key);
-            close.count += 1;
+        if let Fate::Closes(_) = fate_at(row, id, firsts[i]) {
+            push(&mut close, ConnectionId(row.key));
         }
     }
     close
@@ -204,8 +183,8 @@ fn closed_of(l: &Ledger, id: ConnectId, firsts: Firsts) -> Connections
 
 // Drops the dials of the attempt, where the first live connection is known for each row.
 pub fn abort_with(l: &mut Ledger, id: ConnectId, firsts: Firsts) -> Dropped
-    ensures answer { result ≡ abort_with id (pairs (rows_of Dials l.old) firsts.rows) }
-    ensures words { l.new ≡ laid Dials (each (left_of id) (pairs (rows_of Dials l.old) firsts.rows)) l.old }
+    ensures answer { result ≡ abort_with id (pairs (rows_of Dials l.old) firsts) }
+    ensures words { l.new ≡ laid Dials (each (left_of id) (pairs (rows_of Dials l.old) firsts)) l.old }
 {
     let retired = retired_of(l, id, firsts);
     let close = closed_of(l, id, firsts);

@@ -7,7 +7,7 @@ use Prim.Native.Nat.{ℕ, ◌-◌, ◌≤◌}
 use native.Mathlib.Omega.{arith}
 use borrow.Author.Tests.{le-leb}
 use lib.ListN.{length, replicate, length-append}
-use Rattle.std.specs.Prelude.{Err, Ok}
+use Rattle.std.specs.Prelude.{Err, Ok, Result}
 use Rattle.wire.specs.Lists.{entries, broken, listed}
 use Rattle.message.specs.declared.Kind.TheVariants.{Connect}
 use Rattle.message.specs.Encoding.{frame_bytes}
@@ -17,7 +17,7 @@ use Rattle.frames.specs.declared.Framed.{Framed}
 use Rattle.frames.proofs.Frames.{connect_listed}
 use Rattle.candidates.specs.Selection.{usual, most, held, own, packed, capacity, answered}
 use Rattle.candidates.specs.declared.Limits.{Limits}
-use Rattle.candidates.specs.declared.Selection.{Selection}
+use Rattle.candidates.specs.declared.Chosen.{Chosen}
 use Rattle.candidates.proofs.Answers.{held_small}
 use Rattle.candidates.proofs.Promises.{own_short, own_limits, own_list}
 use Rattle.refusal.specs.declared.Refusal.{Refusal}
@@ -34,30 +34,30 @@ own_fits l list h e =
     rw (e, le-leb (length (frame_bytes Connect (own (held l) (entries list)))) frame.frame_capacity f)
 
 -- of the selection from an own list
-module _ (l : Limits) (list : List ℕ) {s : Selection} (e : s ≡ answered list (own (held l) (entries list))) where
-  pub own_broken : {w : Refusal} {f : Framed} → s.outcome ≡ Err w → f ≡ frame.packed [] → f ≡ own_connect l list
+module _ (l : Limits) (list : List ℕ) {s : Result Chosen Refusal} (e : s ≡ answered list (own (held l) (entries list))) where
+  pub own_broken : {w : Refusal} {f : Framed} → s ≡ Err w → f ≡ frame.packed [] → f ≡ own_connect l list
   unfolding answered own_connect
-  own_broken {w} {f} g h = go (broken list) refl (sym (ap (λ (x : Selection). x.outcome) e) ∙ g)
+  own_broken {w} {f} g h = go (broken list) refl (sym e ∙ g)
     where
-      go : (t : Bool) → broken list ≡ t → (answered list (own (held l) (entries list))).outcome ≡ Err w → f ≡ own_connect l list
+      go : (t : Bool) → broken list ≡ t → answered list (own (held l) (entries list)) ≡ Err w → f ≡ own_connect l list
       go true i j = rw i h
-      go false i j = absurd (let k : Ok tt ≡ Err w = rw i at j in let z : ◌≡◌ {A = ℕ} 0 1 = cc in omega arith)
+      go false i j = absurd (let k : Ok (packed (listed (own (held l) (entries list)))) ≡ Err w = rw i at j in let z : ◌≡◌ {A = ℕ} 0 1 = cc in omega arith)
 
-  kept_is : s.outcome ≡ Ok tt → (broken list ≡ false) × (s.chosen ≡ packed (listed (own (held l) (entries list))))
+  kept_is : {c : Chosen} → s ≡ Ok c → (broken list ≡ false) × (c ≡ packed (listed (own (held l) (entries list))))
   unfolding answered
-  kept_is g = go (broken list) refl (sym (ap (λ (x : Selection). x.outcome) e) ∙ g) (ap (λ (x : Selection). x.chosen) e)
+  kept_is {c} g = go (broken list) refl (sym e ∙ g)
     where
-      go : (t : Bool) → broken list ≡ t → (answered list (own (held l) (entries list))).outcome ≡ Ok tt → s.chosen ≡ (answered list (own (held l) (entries list))).chosen
-          → (broken list ≡ false) × (s.chosen ≡ packed (listed (own (held l) (entries list))))
-      go true i j k = absurd (let m : Err Refusal·.BrokenList ≡ Ok tt = rw i at j in let z : ◌≡◌ {A = ℕ} 0 1 = cc in omega arith)
-      go false i j k = (i, rw i at k)
+      go : (t : Bool) → broken list ≡ t → answered list (own (held l) (entries list)) ≡ Ok c
+          → (broken list ≡ false) × (c ≡ packed (listed (own (held l) (entries list))))
+      go true i j = absurd (let m : Err Refusal·.BrokenList ≡ Ok c = rw i at j in let z : ◌≡◌ {A = ℕ} 0 1 = cc in omega arith)
+      go false i j = (i, let m : Ok (packed (listed (own (held l) (entries list)))) ≡ Ok c = rw i at j in cc)
 
-  pub own_within : s.outcome ≡ Ok tt → s.chosen.len ≤ length s.chosen.bytes
+  pub own_within : {c : Chosen} → s ≡ Ok c → c.len ≤ length c.bytes
   own_within g =
       rw (kept_is g).1
       (omega (arith, length-append (listed (own (held l) (entries list))) (replicate (capacity - length (listed (own (held l) (entries list)))) 0)))
 
-  pub own_kept : s.outcome ≡ Ok tt → {f : Framed} → f ≡ chosen_connect s.chosen → f ≡ own_connect l list
+  pub own_kept : {c : Chosen} → s ≡ Ok c → {f : Framed} → f ≡ chosen_connect c → f ≡ own_connect l list
   unfolding own_connect chosen_connect connect_frame
   own_kept g {f} h =
       let w = own_list (held l) (entries list) in

@@ -105,10 +105,9 @@ fn connect_of(chosen: Chosen) -> Framed
 pub fn own_connect(list: &[u8], limits: Limits) -> Framed
     ensures { result ≡ own_connect limits list.now }
 {
-    let selection = candidates::own_punch_candidates(list, limits);
-    match selection.outcome {
+    match candidates::own_punch_candidates(list, limits) {
         Err(_) => Framed::empty(),
-        Ok(()) => connect_of(selection.chosen),
+        Ok(chosen) => connect_of(chosen),
     }
 }
 

@@ -1,36 +1,20 @@
 -- Lines from words, and the form that a line has. Assumes nothing.
 use mathlib.Core.Path.{◌≡◌, refl, sym, ◌∙◌}
 use mathlib.Core.List.{List, []}
-use mathlib.Core.Bool.{Bool, true, false}
+use mathlib.Core.Bool.{true, false}
 use Prim.Native.Nat.{ℕ, ◌≤◌, ◌<◌}
 use native.Mathlib.Omega.{arith}
 use lib.ListN.{length, take, get_or}
 use lib.Seq.{get_or-take}
-use Rattle.std.specs.Prelude.{None, Option, Some}
-use Rattle.vocabulary.specs.declared.StreamInput.{StreamInput}
+use Rattle.std.specs.Prelude.{None, Option}
 use Rattle.forms.specs.Forms.{kind_of as mark_of, Good, read_form, is_read, Stored}
 use Rattle.forms.specs.Texts.{count_from}
 use Rattle.forms.specs.Tables.{differ, differs_from, all_differ, Entry, said, forms_of, ShareNoLine}
 use Rattle.forms.proofs.Count.{is_bad, is_good_lem}
 use Rattle.forms.proofs.Tables.{share_no_line, said_at}
 use Rattle.journal_lines.specs.Forms.{forms, settings_form, start_form, up_form, input_form, tick_form, wrote_form, down_form, dial_form, forget_form, attribute_form}
-use Rattle.journal_lines.specs.Lines.{word, is_second, live_of, offer_of, kind_of, settings_in, settings_of, start_of, up_of, may_have_bytes, input_of, tick_of, wrote_of, down_of, dial_of, forget_of, attribute_of, calls, line_of}
-use Rattle.journal_lines.specs.declared.Digits.{Digits}
+use Rattle.journal_lines.specs.Lines.{settings_in, settings_of, start_of, up_of, input_of, tick_of, wrote_of, down_of, dial_of, forget_of, attribute_of, calls, line_of}
 use Rattle.journal_lines.specs.declared.Line.{Line}
-use Rattle.journal_lines.specs.declared.Line.TheVariants.{Input}
-use Rattle.ids.specs.declared.ConnectionId.{ConnectionId}
-use Rattle.ids.specs.declared.StreamId.{StreamId}
-
--- ---- an input that may have its bytes
-
-pub input_made : (ws : List ℕ) {b d : Digits} {live : Option ConnectionId} {offer : Option (ConnectionId × StreamId)} {pending : Bool} {named : StreamInput} {t : Bool} → t ≡ may_have_bytes ws
-    → named ≡ kind_of (word ws 2) → b ≡ record { start = word ws 3; end = word ws 4 } → live ≡ live_of (word ws 5) (word ws 6) → offer ≡ offer_of (word ws 7) (word ws 8) (word ws 9)
-    → pending ≡ is_second (word ws 10) → d ≡ record { start = word ws 11; end = word ws 12 } → t ≡ true
-    → Some (Input (word ws 0) (record { 0 = word ws 1 }) named b live offer pending d) ≡ input_of ws
-input_made ws pt pn pb pl po pp pd h = rw (← pt, h, pn, pb, pl, po, pp, pd)
-
-pub input_unmade : (ws : List ℕ) {t : Bool} → t ≡ may_have_bytes ws → t ≡ false → None ≡ input_of ws
-input_unmade ws pt h = rw (← pt, h)
 
 -- ---- a call looks at its own words alone
 

@@ -19,11 +19,8 @@ use Rattle.rows.specs.declared.Keep.TheVariants.{Lasting}
 use Rattle.kinds.specs.Kinds.{row_of}
 use Rattle.rows.specs.Rows.{kept, without, inserted, crowded}
 use Rattle.rows.specs.Words.{rows_of}
-use Rattle.dials.specs.declared.Tokens.{Tokens}
-use Rattle.dials.specs.declared.Connections.{Connections}
-use Rattle.dials.specs.declared.Firsts.{Firsts}
-use Rattle.dials.specs.declared.First.{First}
-use Rattle.dials.specs.Dials.{each, left_of, retired_of, closed_of, tokens_of, connections_of, pairs, with_firsts}
+use Rattle.dials.specs.declared.Column.{Column}
+use Rattle.dials.specs.Dials.{each, left_of, retired_of, closed_of, column_of, no_token, no_connection, pairs, with_firsts}
 use Rattle.entries.specs.Entries.{dial_at, path_at, window_open, punch_end, soonest}
 use Rattle.rows.specs.Words as words
 use Rattle.path.specs.declared.Dial.{Dial}
@@ -84,8 +81,8 @@ pub record Finished : Type 0 where
 
 pub record Aborted : Type 0 where
   pub ledger : PathLedger
-  pub retired : Tokens
-  pub close : Connections
+  pub retired : Column NatToken
+  pub close : Column ConnectionId
 
 pub record Attributed : Type 0 where
   pub ledger : PathLedger
@@ -107,15 +104,15 @@ unfoldable pub finish_dial : PathLedger → ConnectionId → Finished
 finish_dial l conn = record { ledger = with_dials l (without conn.0 (dials_of l)); dial = dial_at conn (dials_of l) }
 
 -- the dials that are left, the tokens of those that are retired and the connections to close
-abbrev pub aborted : PathLedger → ConnectId → List (Row × First) → Aborted
+abbrev pub aborted : PathLedger → ConnectId → List (Row × Option ConnectionId) → Aborted
 aborted l id ps = record {
   ledger = with_dials l (each (left_of id) ps);
-  retired = tokens_of (each (retired_of id) ps);
-  close = connections_of (each (closed_of id) ps);
+  retired = column_of no_token (each (retired_of id) ps);
+  close = column_of no_connection (each (closed_of id) ps);
 }
 
-unfoldable pub aborted_with : PathLedger → ConnectId → Firsts → Aborted
-aborted_with l id firsts = aborted l id (pairs (dials_of l) firsts.rows)
+unfoldable pub aborted_with : PathLedger → ConnectId → List (Option ConnectionId) → Aborted
+aborted_with l id firsts = aborted l id (pairs (dials_of l) firsts)
 
 unfoldable pub aborted_dials : PathLedger → ConnectId → PeerId → (PeerId → Option ConnectionId) → Aborted
 aborted_dials l id target first = aborted l id (with_firsts target first (dials_of l))

@@ -1,20 +1,23 @@
 -- Records read and numbers written, one at a time. Assumes nothing.
-use mathlib.Core.Path.{◌≡◌, refl, sym, ap, ◌∙◌}
-use mathlib.Core.List.{List, [], ◌∷◌, ◌++◌}
-use Prim.Native.Nat.{ℕ, zero, suc, ◌+◌, ◌*◌, ◌<◌, ◌≤◌, min}
+use mathlib.Core.Path.{◌≡◌, sym, ap, ◌∙◌}
+use mathlib.Core.List.{List, [], ◌∷◌, ◌++◌, append-nil}
+use Prim.Native.Nat.{ℕ, ◌+◌, ◌*◌, ◌<◌, ◌≤◌, min}
 use native.Mathlib.Numerals.{add-one}
 use native.Mathlib.Omega.{arith}
-use lib.ListN.{length, take, set, get_or, length-append, length-replicate}
-use lib.Seq.{take-suc-set}
+use lib.ListN.{length, take, set, get_or, length-append, length-replicate, length-take}
+use lib.Seq.{take-suc, take-suc-set}
 use Rattle.text.specs.Printed.{printed}
 use Rattle.text.proofs.Printing.{Laid, then, fits_place}
 use Rattle.line_program.proofs.Answers.{renamed}
 use Rattle.call_table.specs.Tables.{shows, no_bytes_lem}
 use Rattle.rows.specs.Rows.{capacity}
-use Rattle.dials.specs.declared.Tokens.{Tokens}
-use Rattle.dials.specs.declared.Connections.{Connections}
+use Rattle.ids.specs.declared.NatToken.{NatToken}
+use Rattle.ids.specs.declared.ConnectionId.{ConnectionId}
+use Rattle.dials.specs.declared.Column.{Column}
+use Rattle.dials.specs.Dials.{each}
+use Rattle.dials.proofs.Each.{each_append}
 use Rattle.live_dials.specs.declared.Live.{Live}
-use Rattle.ledger_calls.specs.Records.{up_to, live_at, records, lives_in, octets, token_at, tokens_bytes, connection_at, connections_bytes}
+use Rattle.ledger_calls.specs.Records.{up_to, live_at, records, lives_in, octets, numbers_bytes, tokens_bytes, connections_bytes}
 use Rattle.ledger_calls.specs.Calls.{dropped_said}
 
 -- ---- records
@@ -33,48 +36,38 @@ module _ (s : List ℕ) (rows : List Live) (k : ℕ) (inv : take k rows ≡ up_t
 
 -- ---- numbers
 
-pub number_next : {o : List ℕ} {p : ℕ} {x : List ℕ} {q : ℕ} {y : List ℕ} {r : ℕ} (f : ℕ → List ℕ) (i : ℕ)
-    → Laid o p (up_to f i) x q → Laid x q (f i) y r → Laid o p (up_to f (i + 1)) y r
-unfolding up_to
-number_next f i a b = rw (add-one i) (then a b)
-
-pub numbers_all : {o : List ℕ} {p : ℕ} {x : List ℕ} {q : ℕ} (f : ℕ → List ℕ) {i n : ℕ} → i ≡ n → Laid o p (up_to f i) x q → Laid o p (up_to f n) x q
-numbers_all f e a = renamed (ap (up_to f) e) a
-
--- what stands in a list does not depend on what is said past its end
-same_at : {A : Type 0} (xs : List A) (i : ℕ) (y z : A) → i < length xs → get_or xs i y ≡ get_or xs i z
-same_at [] i y z h = absurd (omega arith)
-same_at (x ∷ xs) zero y z h = refl
-same_at (x ∷ xs) (suc i) y z h = same_at xs i y z (omega arith)
-
-pub number_at : {A : Type 0} {o : List ℕ} {p : ℕ} {x : List ℕ} {q : ℕ} (f : A → ℕ) (xs : List A) (i : ℕ) (y z : A) → i < length xs
-    → Laid o p (octets (f (get_or xs i y))) x q → Laid o p (octets (f (get_or xs i z))) x q
-number_at f xs i y z h l = renamed (ap (λ v. octets (f v)) (same_at xs i y z h)) l
+-- one more of the numbers
+pub number_next : {o : List ℕ} {p : ℕ} {x : List ℕ} {q : ℕ} {y : List ℕ} {r : ℕ} (ns : List ℕ) (i : ℕ) → i < length ns
+    → Laid o p (numbers_bytes (take i ns)) x q → Laid x q (octets (get_or ns i 0)) y r → Laid o p (numbers_bytes (take (i + 1) ns)) y r
+unfolding each
+number_next ns i h a b =
+    let e : numbers_bytes (take (i + 1) ns) ≡ numbers_bytes (take i ns) ++ octets (get_or ns i 0)
+    = ap numbers_bytes (rw (add-one i) (take-suc ns i 0 h)) ∙ each_append octets (take i ns) (get_or ns i 0 ∷ []) ∙ simp append-nil in
+    renamed (sym e) (then a b)
 
 -- ---- what an abort answers
 
-numbers_length : (f : ℕ → List ℕ) → ((k : ℕ) → length (f k) ≡ 8) → (n : ℕ) → length (up_to f n) ≡ 8 * n
-unfolding up_to
-numbers_length f g zero = refl
-numbers_length f g (suc n) = omega (arith, length-append (up_to f n) (f n), g n, numbers_length f g n)
+numbers_few : (ns : List ℕ) → length (numbers_bytes ns) ≤ 8 * length ns
+unfolding each octets
+numbers_few [] = omega arith
+numbers_few (n ∷ ns) = omega (arith, length-append (octets n) (numbers_bytes ns), numbers_few ns)
 
-eight : (v : ℕ) → length (octets v) ≡ 8
-unfolding octets
-eight v = refl
+used_few : (ns : List ℕ) (n : ℕ) → length (numbers_bytes (take (min n capacity) ns)) ≤ 512
+used_few ns n = omega (arith, numbers_few (take (min n capacity) ns), length-take (min n capacity) ns)
 
-tokens_few : (t : Tokens) → length (tokens_bytes t) ≤ 512
+tokens_few : (t : Column NatToken) → length (tokens_bytes t) ≤ 512
 unfolding tokens_bytes
-tokens_few t = omega (arith, numbers_length (token_at t) (λ k. eight (get_or t.tokens k (record { 0 = 0 })).0) (min t.count capacity))
+tokens_few t = used_few _ t.count
 
-connections_few : (c : Connections) → length (connections_bytes c) ≤ 512
+connections_few : (c : Column ConnectionId) → length (connections_bytes c) ≤ 512
 unfolding connections_bytes
-connections_few c = omega (arith, numbers_length (connection_at c) (λ k. eight (get_or c.connections k (record { 0 = 0 })).0) (min c.count capacity))
+connections_few c = used_few _ c.count
 
 room : length no_bytes_lem ≡ 8192
 unfolding no_bytes_lem
 room = length-replicate {A = ℕ} 8192 0
 
-module _ (t : Tokens) (c : Connections) {o x y : List ℕ} {m e : ℕ} (n : o ≡ no_bytes_lem) (f : Laid o 0 (tokens_bytes t) x m) (g : Laid x m (connections_bytes c) y e) where
+module _ (t : Column NatToken) (c : Column ConnectionId) {o x y : List ℕ} {m e : ℕ} (n : o ≡ no_bytes_lem) (f : Laid o 0 (tokens_bytes t) x m) (g : Laid x m (connections_bytes c) y e) where
   size : length o ≡ 8192
   size = ap length n ∙ room
 

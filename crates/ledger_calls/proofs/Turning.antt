@@ -12,11 +12,11 @@ use Rattle.kinds.specs.declared.Entry.{Entry}
 use Rattle.kinds.specs.declared.Row.{Row}
 use Rattle.kinds.specs.Kinds.{entry_of}
 use Rattle.rows.specs.Words.{no_row}
-use Rattle.dials.specs.declared.Tokens.{Tokens}
-use Rattle.dials.specs.declared.Connections.{Connections}
-use Rattle.dials.specs.declared.Firsts.{Firsts}
+use Rattle.ids.specs.declared.NatToken.{NatToken}
+use Rattle.ids.specs.declared.ConnectionId.{ConnectionId}
+use Rattle.std.specs.Prelude.{Option}
+use Rattle.dials.specs.declared.Column.{Column}
 use Rattle.ledger.specs.Ledger.{Aborted, tables_of, laid, aborted_with, aborted_dials}
-use Rattle.live_dials.specs.declared.Asked.{Asked}
 use Rattle.live_dials.specs.declared.Live.{Live}
 use Rattle.live_dials.specs.First.{firsts_of, first_live}
 use Rattle.live_dials.specs.Asking.{asked_rows}
@@ -42,7 +42,7 @@ module _ (rs : List Row) (place : ℕ) {n : ℕ} (e : n ≡ length rs) where
 
 -- ---- an abort
 
-module _ (ws bytes : List ℕ) (id : ConnectId) (target : PeerId) {live : List Live} {asked : Asked} {firsts : Firsts}
+module _ (ws bytes : List ℕ) (id : ConnectId) (target : PeerId) {live : List Live} {asked : List PeerId} {firsts : List (Option ConnectionId)}
     (k : live ≡ lives_in bytes) (p : asked ≡ asked_rows (tables_of ws).dials target) (q : firsts ≡ firsts_of live asked) where
   by_rows : aborted_with (tables_of ws) id firsts ≡ aborted_dials (tables_of ws) id target (first_live (lives_in bytes))
   by_rows =
@@ -52,7 +52,7 @@ module _ (ws bytes : List ℕ) (id : ConnectId) (target : PeerId) {live : List L
   abbrev a : Aborted
   a = aborted_with (tables_of ws) id firsts
 
-  pub dropped_turn : {r : Said} {t : Tokens} {c : Connections} {after : List ℕ} → r ≡ dropped_said t c
+  pub dropped_turn : {r : Said} {t : Column NatToken} {c : Column ConnectionId} {after : List ℕ} → r ≡ dropped_said t c
       → (t ≡ a.retired) × ((c ≡ a.close) × ((tables_of after ≡ a.ledger) × (after ≡ laid a.ledger ws)))
       → (r ≡ (abort_turn ws id target bytes).said) × ((tables_of after ≡ (abort_turn ws id target bytes).ledger) × (after ≡ (abort_turn ws id target bytes).words))
   unfolding abort_turn

@@ -13,8 +13,8 @@ use Rattle.kinds.specs.declared.Entry.TheVariants as entry
 use Rattle.kinds.specs.declared.Row.{Row}
 use Rattle.kinds.specs.Kinds.{entry_of}
 use Rattle.rows.specs.Words.{ledger_words, no_row, rows_of}
-use Rattle.dials.specs.declared.Tokens.{Tokens}
-use Rattle.dials.specs.declared.Connections.{Connections}
+use Rattle.ids.specs.declared.NatToken.{NatToken}
+use Rattle.dials.specs.declared.Column.{Column}
 use Rattle.live_dials.specs.First.{first_live}
 use Rattle.ledger.specs.Ledger.{PathLedger, Recorded, Finished, Aborted, Attributed, Forgotten, tables_of, laid, empty_ledger, dial_started, finish_dial, aborted_dials, expect_punches, end_punches, attributed, replaced_by, forgotten, is_punched, ticked, next_deadline, is_quiet}
 use Rattle.call_table.specs.Tables.{call_of, bytes_in, none, says, shows, no_bytes_lem, answer_text}
@@ -100,7 +100,7 @@ unfoldable pub row_said : List Row → ℕ → Said
 row_said rows place = pick (leb (length rows) place) (says 1 none) (entry_said (get_or rows place no_row).key (entry_of (get_or rows place no_row)))
 
 -- the tokens retired and the connections to close stand one behind the other
-unfoldable pub dropped_said : Tokens → Connections → Said
+unfoldable pub dropped_said : Column NatToken → Column ConnectionId → Said
 dropped_said retired close =
     shows 1
     (0 ∷ length (tokens_bytes retired) ∷ length (tokens_bytes retired) ∷ (length (tokens_bytes retired) + length (connections_bytes close)) ∷ 0 ∷ 0 ∷ [])

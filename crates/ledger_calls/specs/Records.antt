@@ -1,8 +1,10 @@
 -- Numbers as eight bytes, the first byte first: the live connections of an abort, and the lists that it answers (RULES.md, section 10.4).
-use Rattle.std.specs.Prelude.{ℕ, zero, suc, ◌+◌, ◌*◌, ◌/◌, ◌%◌, ◌^◌, min, List, [], ◌∷◌, ◌++◌, length, get_or}
+use Rattle.std.specs.Prelude.{ℕ, zero, suc, ◌+◌, ◌*◌, ◌/◌, ◌%◌, ◌^◌, min, List, [], ◌∷◌, ◌++◌, map, length, take, get_or}
 use Rattle.rows.specs.Rows.{capacity}
-use Rattle.dials.specs.declared.Tokens.{Tokens}
-use Rattle.dials.specs.declared.Connections.{Connections}
+use Rattle.ids.specs.declared.NatToken.{NatToken}
+use Rattle.ids.specs.declared.ConnectionId.{ConnectionId}
+use Rattle.dials.specs.declared.Column.{Column}
+use Rattle.dials.specs.Dials.{each}
 use Rattle.live_dials.specs.declared.Live.{Live}
 
 -- what stands at the places up to one, one behind the other
@@ -36,15 +38,15 @@ unfoldable pub octets : ℕ → List ℕ
 octets v =
     (v / 2 ^ 56) ∷ (v / 2 ^ 48 % 256) ∷ (v / 2 ^ 40 % 256) ∷ (v / 2 ^ 32 % 256) ∷ (v / 2 ^ 24 % 256) ∷ (v / 2 ^ 16 % 256) ∷ (v / 256 % 256) ∷ (v % 256) ∷ []
 
--- those in use
-abbrev pub token_at : Tokens → ℕ → List ℕ
-token_at list k = octets (get_or list.tokens k (record { 0 = 0 })).0
+abbrev pub numbers_bytes : List ℕ → List ℕ
+numbers_bytes = each octets
 
-unfoldable pub tokens_bytes : Tokens → List ℕ
-tokens_bytes list = up_to (token_at list) (min list.count capacity)
+-- those in use, each by its number
+abbrev pub used_numbers : {A : Type 0} → (A → ℕ) → Column A → List ℕ
+used_numbers number column = take (min column.count capacity) (map number column.values)
 
-abbrev pub connection_at : Connections → ℕ → List ℕ
-connection_at list k = octets (get_or list.connections k (record { 0 = 0 })).0
+unfoldable pub tokens_bytes : Column NatToken → List ℕ
+tokens_bytes column = numbers_bytes (used_numbers (λ (t : NatToken). t.0) column)
 
-unfoldable pub connections_bytes : Connections → List ℕ
-connections_bytes list = up_to (connection_at list) (min list.count capacity)
+unfoldable pub connections_bytes : Column ConnectionId → List ℕ
+connections_bytes column = numbers_bytes (used_numbers (λ (c : ConnectionId). c.0) column)

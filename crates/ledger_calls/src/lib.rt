@@ -1,8 +1,9 @@
 // Calls of `ledger`, on a lent ledger, for the test program: a table of forms, and what each of its calls does and answers.
 #![tactic(auto)]
 
-ghost use Rattle.std.specs.Prelude.{◌≡◌, ℕ, ◌≤◌, take, Option};
+ghost use Rattle.std.specs.Prelude.{◌≡◌, ℕ, ◌≤◌, min, take, Option};
 ghost use Rattle.text.specs.Printed.{printed, behind};
+ghost use Rattle.rows.specs.Rows.{capacity};
 ghost use Rattle.rows.specs.Words.{rows_of};
 ghost use Rattle.ledger.specs.Ledger.{tables_of};
 ghost use Rattle.live_dials.specs.First.{firsts_of};
@@ -15,7 +16,7 @@ ghost use Rattle.ledger_calls.specs.Records.{number, octets};
 ghost use Rattle.ledger_calls.specs.Calls.{outcome_said, dial_said, name_said, answer_said, path_said, upgrade_said, yes_said, deadline_said, entry_said, row_said, dropped_said, abort_turn, change_turn, look_said, turn_of, turn_by, text_by, ledger_table, ledger_turn, ledger_text};
 
 use call_table::{Answered, Said};
-use dials::{Connections, Firsts, Tokens};
+use dials::{Column, Firsts};
 use ids::{ConnectId, ConnectionId, NatToken, PeerId};
 use kinds::Entry;
 use ledger::Ledger;
@@ -23,7 +24,7 @@ use live_dials::{Asked, Live};
 use path::{Attribution, Dial, Replaced};
 use records::RECORDS;
 use refusal::Refusal;
-use rows::Table;
+use rows::{ROWS, Table};
 
 pub mod records;
 pub mod values;
@@ -165,13 +166,21 @@ fn firsts_in(asked: Asked, rows: [Live; RECORDS], n: usize) -> Firsts
     live_dials::first_lives(&rows[..n], asked)
 }
 
+fn in_use(count: u64) -> usize
+    ensures { result ≡ min count capacity }
+{
+    (count as usize).min(ROWS)
+}
+
 // What is retired stands before what is to be closed.
-fn dropped_said(retired: Tokens, close: Connections) -> Said
+fn dropped_said(retired: Column<NatToken>, close: Column<ConnectionId>) -> Said
     ensures { result ≡ dropped_said retired close }
 {
+    let tokens = retired.values.map(|token| token.0);
+    let connections = close.values.map(|connection| connection.0);
     let mut bytes = call_table::no_bytes();
-    let middle = records::put_tokens(retired, &mut bytes, 0);
-    let end = records::put_connections(close, &mut bytes, middle);
+    let middle = records::put_numbers(&tokens[..in_use(retired.count)], &mut bytes, 0);
+    let end = records::put_numbers(&connections[..in_use(close.count)], &mut bytes, middle);
     let m = middle as u64;
     call_table::show(1, [0, m, m, end as u64, 0, 0], bytes)
 }
@@ -186,9 +195,7 @@ fn abort(l: &mut Ledger, id: ConnectId, target: PeerId, bytes: &[u8]) -> Said
     let asked = live_dials::asked_rows(l, target);
     let firsts = firsts_in(asked, rows, live.n);
     let dropped = ledger::abort_with(l, id, firsts);
-    let retired = dropped.retired;
-    let close = dropped.close;
-    dropped_said(retired, close)
+    dropped_said(dropped.retired, dropped.close)
 }
 
 // ---- the calls

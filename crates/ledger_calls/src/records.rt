@@ -1,12 +1,10 @@
 // Numbers as eight bytes, the first byte first: the live connections of an abort, and the lists that it answers.
 ghost use Rattle.std.specs.Prelude.{◌≡◌, ◌+◌, ◌*◌, ◌<◌, ◌≤◌, ◌^◌, length, take};
 ghost use Rattle.text.specs.Printed.{printed, behind};
-ghost use Rattle.ledger_calls.specs.Records.{half, number, octets, live_at, lives_in, tokens_bytes, connections_bytes};
+ghost use Rattle.ledger_calls.specs.Records.{half, number, octets, live_at, lives_in, numbers_bytes};
 
-use dials::{Connections, Tokens};
 use ids::{ConnectionId, PeerId};
 use live_dials::Live;
-use rows::ROWS;
 
 // ---- read
 
@@ -106,26 +104,14 @@ fn put_number(v: u64, out: &mut [u8], at: usize) -> usize
     text::put_text(&bytes, out, at)
 }
 
-pub fn put_tokens(list: Tokens, out: &mut [u8], at: usize) -> usize
-    ensures bytes { out.new ≡ printed out.old at (tokens_bytes list) }
-    ensures place { result ≡ behind out.old at (tokens_bytes list) }
+// One behind the other.
+pub fn put_numbers(numbers: &[u64], out: &mut [u8], at: usize) -> usize
+    ensures bytes { out.new ≡ printed out.old at (numbers_bytes numbers.now) }
+    ensures place { result ≡ behind out.old at (numbers_bytes numbers.now) }
 {
-    let n = (list.count as usize).min(ROWS);
     let mut p = at;
-    for i in 0..n {
-        p = put_number(list.tokens[i].0, out, p);
-    }
-    p
-}
-
-pub fn put_connections(list: Connections, out: &mut [u8], at: usize) -> usize
-    ensures bytes { out.new ≡ printed out.old at (connections_bytes list) }
-    ensures place { result ≡ behind out.old at (connections_bytes list) }
-{
-    let n = (list.count as usize).min(ROWS);
-    let mut p = at;
-    for i in 0..n {
-        p = put_number(list.connections[i].0, out, p);
+    for v in numbers {
+        p = put_number(*v, out, p);
     }
     p
 }

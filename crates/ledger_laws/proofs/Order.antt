@@ -13,7 +13,6 @@ use Rattle.rows.specs.Rows.{crowded}
 use Rattle.rows.specs.Ascending.{Ascending}
 use Rattle.rows.specs.Ascending.Ascending.{none}
 use Rattle.rows.proofs.Laws.{ascending_such, ascending_inserted}
-use Rattle.dials.specs.declared.First.{First}
 use Rattle.dials.specs.declared.Fate.{Fate}
 use Rattle.dials.specs.declared.Fate.TheVariants.{Other as FateOther, Stays, Goes, Closes}
 use Rattle.dials.specs.Dials.{each, stays, fate_at, left_by, left_of, first_for}
@@ -25,7 +24,7 @@ use Rattle.ledger_laws.specs.Laws.{InOrder}
 use Rattle.path.specs.declared.Attribution.{Attribution}
 use Rattle.refusal.specs.declared.Refusal.{Refusal}
 
-left_such : (id : ConnectId) (g : Row → First) (rs : List Row) → each (left_of id) (map (λ (r : Row). (r, g r)) rs) ≡ such (λ (r : Row). stays (fate_at id r (g r))) rs
+left_such : (id : ConnectId) (g : Row → Option ConnectionId) (rs : List Row) → each (left_of id) (map (λ (r : Row). (r, g r)) rs) ≡ such (λ (r : Row). stays (fate_at id r (g r))) rs
 unfolding each such stays
 left_such id g [] = refl
 left_such id g (r ∷ rs) = go (fate_at id r (g r)) (left_such id g rs)

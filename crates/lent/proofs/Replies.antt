@@ -27,12 +27,12 @@ use Rattle.initiator.specs.declared.Reply.{Reply}
 use Rattle.initiator.specs.declared.Reply.TheVariants as r
 use Rattle.frames.proofs.Gathers.{gathers_front}
 use Rattle.candidates.specs.declared.Chosen.{Chosen}
-use Rattle.candidates.specs.declared.Selection.{Selection}
+use Rattle.refusal.specs.declared.Refusal.{Refusal}
 use Rattle.candidates.proofs.Answers.{answer_kept}
 use Rattle.candidates.specs.Selection.{held_terms, selected, packed}
 use Rattle.candidates.specs.declared.Terms.{Terms}
 use Rattle.lent.specs.Brought.{Brought, unfinished, failed, connect, from_content, from_frame, brought_by}
-use Rattle.lent.specs.Replies.{no_list, chosen_from, targets_from, peeked_of}
+use Rattle.lent.specs.Replies.{no_list, chosen_in, chosen_from, targets_from, peeked_of}
 use Rattle.inputs.specs.declared.Heard.TheVariants as heard
 
 -- ---- the reply
@@ -152,7 +152,7 @@ unfolding chosen_from targets_from
 targets_are xs b n terms those h {o} e =
     let w = listing xs b n those h in
     ap (chosen_from terms) (ap (take (length (listed those))) e ∙ w.list)
-    ∙ ap (λ (x : Selection). x.chosen)
+    ∙ ap chosen_in
     (sym (answer_kept (listed those) (selected (held_terms terms) (entries (listed those))) (sym (unbroken those w.short)) refl refl))
     ∙ ap (λ (ys : List (List ℕ)). packed (listed (selected (held_terms terms) ys))) (read_back those w.short)
 

@@ -1,5 +1,6 @@
 -- What the bytes of an input bring of the reply, with the targets among its addresses (RULES.md, sections 7 and 11.7).
-use Rattle.std.specs.Prelude.{ℕ, List, [], replicate}
+use Rattle.std.specs.Prelude.{ℕ, List, [], replicate, Result, Ok, Err}
+use Rattle.refusal.specs.declared.Refusal.{Refusal}
 use Rattle.wire.specs.Frame.{max_message_size}
 use Rattle.wire.specs.Lists.{listed, entries}
 use Rattle.candidates.specs.declared.Chosen.{Chosen}
@@ -13,9 +14,13 @@ use Rattle.lent.specs.Brought.{Brought, unfinished, failed, connect}
 unfoldable pub no_list : List ℕ
 no_list = replicate max_message_size 0
 
--- the targets among the addresses of a list
+abbrev pub chosen_in : Result Chosen Refusal → Chosen
+chosen_in (Ok chosen) = chosen
+chosen_in (Err why) = packed []
+
+-- the targets among the addresses of a list; none of a broken one
 unfoldable pub chosen_from : Terms → List ℕ → Chosen
-chosen_from t list = (answered list (selected (held_terms t) (entries list))).chosen
+chosen_from t list = chosen_in (answered list (selected (held_terms t) (entries list)))
 
 -- the targets of a reply's addresses
 unfoldable pub targets_from : Terms → List (List ℕ) → Chosen

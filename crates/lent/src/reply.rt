@@ -24,12 +24,15 @@ fn no_list() -> AddressBytes
     [0u8; wire::MAX_MESSAGE_SIZE]
 }
 
-// The targets among the addresses of a reply.
+// The targets among the addresses of a reply; none where its list is broken.
 #[tactic(auto, unfolding(crate::specs::Replies::chosen_from))]
 fn targets_from(list: &[u8], terms: Terms) -> Chosen
     ensures { result ≡ chosen_from terms list.now }
 {
-    candidates::select_punch_candidates(list, terms).chosen
+    match candidates::select_punch_candidates(list, terms) {
+        Ok(chosen) => chosen,
+        Err(_) => Chosen::empty(),
+    }
 }
 
 // The bytes behind the first `count` of the buffer, which stays as it is.

@@ -9,7 +9,6 @@ use Rattle.address.specs.Multiaddr.{parsed}
 use Rattle.address.specs.Words.{may_be_target}
 use Rattle.candidates.specs.Selection.{usual, usually, selected, own, bounded, answered}
 use Rattle.candidates.specs.declared.Chosen.{Chosen}
-use Rattle.candidates.specs.declared.Selection.{Selection}
 use Rattle.call_table.specs.Tables.{call_of, bytes_in, none, says, shows, no_bytes_lem, answer_text}
 use Rattle.call_table.specs.declared.Said.{Said}
 use Rattle.call_table.specs.declared.Call.{Call}
@@ -34,12 +33,9 @@ eligible_said private (Some (ip, port)) = yes_said (may_be_target private ip)
 eligible_said private None = says 3 none
 
 -- the list kept is the first bytes
-abbrev pub outcome_said : Chosen → Result ⊤ Refusal → Said
-outcome_said c (Ok tt) = shows 1 (0 ∷ c.len ∷ 0 ∷ 0 ∷ 0 ∷ 0 ∷ []) (printed no_bytes_lem 0 c.bytes)
-outcome_said c (Err why) = says 2 (number_of why ∷ 0 ∷ 0 ∷ 0 ∷ 0 ∷ 0 ∷ [])
-
-abbrev pub selection_said : Selection → Said
-selection_said s = outcome_said s.chosen s.outcome
+abbrev pub selection_said : Result Chosen Refusal → Said
+selection_said (Ok c) = shows 1 (0 ∷ c.len ∷ 0 ∷ 0 ∷ 0 ∷ 0 ∷ []) (printed no_bytes_lem 0 c.bytes)
+selection_said (Err why) = says 2 (number_of why ∷ 0 ∷ 0 ∷ 0 ∷ 0 ∷ 0 ∷ [])
 
 -- what is answered to each row's call, with its bytes
 unfoldable pub choice_said : ℕ → List ℕ → Said

@@ -6,7 +6,8 @@ ghost use Rattle.call_table.specs.Tables.{call_of};
 ghost use Rattle.library_calls.specs.Choices.{yes_said, eligible_said, selection_said, choice_said, text_by, choices_text, choices_table};
 
 use call_table::{Answered, Said};
-use candidates::{Limits, Selection, Terms};
+use candidates::{Chosen, Limits, Terms};
+use refusal::Refusal;
 
 fn yes_said(yes: bool) -> Said
     ensures { result ≡ yes_said yes }
@@ -24,22 +25,16 @@ fn eligible(private: bool, bytes: &[u8]) -> Said
     }
 }
 
-fn selection_said(s: Selection) -> Said
-    ensures { result ≡ selection_said s }
+fn selection_said(selection: Result<Chosen, Refusal>) -> Said
+    ensures { result ≡ selection_said selection }
 {
-    let outcome = s.outcome;
-    let chosen = s.chosen;
-    let kept = chosen.bytes;
-    match outcome {
-        Ok(()) => {
+    match selection {
+        Ok(chosen) => {
             let mut bytes = call_table::no_bytes();
-            wire::put_bytes(&kept, &mut bytes, 0);
+            wire::put_bytes(&chosen.bytes, &mut bytes, 0);
             call_table::show(1, [0, chosen.len as u64, 0, 0, 0, 0], bytes)
         }
-        Err(why) => {
-            let n = why.number();
-            call_table::say(2, [n, 0, 0, 0, 0, 0])
-        }
+        Err(why) => call_table::say(2, [why.number(), 0, 0, 0, 0, 0]),
     }
 }
 

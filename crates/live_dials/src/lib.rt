@@ -6,10 +6,10 @@ ghost use Rattle.rows.specs.declared.Table.TheVariants.{Dials};
 ghost use Rattle.rows.specs.Rows.{capacity};
 ghost use Rattle.rows.specs.Words.{rows_of};
 ghost use Rattle.ledger.specs.Ledger.{tables_of, laid, aborted_dials};
-ghost use Rattle.live_dials.specs.First.{is_peer, first_of, no_peer, live_of, first, firsts_of, first_live};
+ghost use Rattle.live_dials.specs.First.{is_peer, first_live, firsts_of};
 ghost use Rattle.live_dials.specs.Asking.{asked_rows};
 
-use dials::{Dropped, First, Firsts};
+use dials::{Dropped, Firsts};
 use ids::{ConnectId, ConnectionId, PeerId};
 use rows::{Ledger, ROWS, Table};
 use std::array;
@@ -29,7 +29,7 @@ fn is_peer(l: Live, peer: PeerId) -> bool
 
 // The connection of the first record that has the peer.
 pub fn first_live(live: &[Live], peer: PeerId) -> Option<ConnectionId>
-    ensures { result ≡ first_of live.now peer }
+    ensures { result ≡ first_live live.now peer }
 {
     for l in live {
         if is_peer(*l, peer) {
@@ -40,45 +40,20 @@ pub fn first_live(live: &[Live], peer: PeerId) -> Option<ConnectionId>
 }
 
 // The peers to ask for, one for each row.
-#[derive(Clone, Copy)]
-pub struct Asked {
-    pub peers: [PeerId; ROWS],
-}
-
-fn live_of(x: Option<ConnectionId>) -> Option<ConnectionId>
-    ensures { result ≡ live_of x }
-{
-    match x {
-        Some(c) => Some(c),
-        None => None,
-    }
-}
+pub type Asked = [PeerId; ROWS];
 
 // The first live connection of each peer.
 pub fn first_lives(live: &[Live], asked: Asked) -> Firsts
     ensures { result ≡ firsts_of live.now asked }
 {
-    Firsts {
-        rows: array::from_fn(|k| First {
-            live: live_of(first_live(live, asked.peers[k])),
-        }),
-    }
+    asked.map(|peer| first_live(live, peer))
 }
 
 // The peer that each row of the dials asks for.
 pub fn asked_rows(l: &Ledger, target: PeerId) -> Asked
     ensures { result ≡ asked_rows (rows_of Dials l.now) target }
 {
-    let n = rows::used(l, Table::Dials);
-    Asked {
-        peers: array::from_fn(|k| {
-            if k < n {
-                dials::asked_of(rows::row_at(l, Table::Dials, k), target)
-            } else {
-                target
-            }
-        }),
-    }
+    array::from_fn(|k| dials::asked_of(rows::row_at(l, Table::Dials, k), target))
 }
 
 // Drops the dials of the attempt that connects to the target. A dial whose connection is its peer's first live one is not closed; a

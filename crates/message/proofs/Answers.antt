@@ -20,18 +20,23 @@ use Rattle.wire.proofs.Stores.{sets_front, parts_stored}
 use Rattle.message.specs.Message.{Content, says, refused, accepted, addresses, content_of, measured, kind_of, type_number, with_room, over, answered, filled, decode_of, decode_into}
 use Rattle.message.specs.Encoding.{type_field, address_fields, message_bytes, sent, sent_into}
 use Rattle.message.specs.declared.Kind.{Kind}
-use Rattle.message.specs.declared.Measured.{Measured}
-use Rattle.message.specs.declared.Measured.TheVariants as m
 use Rattle.message.proofs.Scan.{list_long}
 
 -- ---- reading
 
+abbrev pair_of : Result (ℕ × ℕ) Refusal → ℕ × ℕ
+pair_of (Ok p) = p
+pair_of (Err why) = (0, 0)
+
 -- what was measured says what the message is
-good_is : (x : Content) (k n : ℕ) → m.Good k n ≡ measured x → (x ≡ says k (addresses x)) × (n ≡ length (listed (addresses x)))
-good_is (says j l) k n e = let c : j ≡ k = cc in (rw c, cc)
+good_is : (x : Content) (k n : ℕ) → Ok (k, n) ≡ measured x → (x ≡ says k (addresses x)) × (n ≡ length (listed (addresses x)))
+good_is (says j l) k n e =
+    let p : (k, n) ≡ (j, length (listed l)) = ap pair_of e in
+    let c : j ≡ k = sym (ap (λ (q : ℕ × ℕ). q.0) p) in
+    (rw c, ap (λ (q : ℕ × ℕ). q.1) p)
 good_is (refused v) k n e = let c : ◌≡◌ {A = ℕ} 0 1 = cc in absurd (omega arith)
 
-refused_is : (x : Content) (v : Refusal) → m.Refused v ≡ measured x → x ≡ refused v
+refused_is : (x : Content) (v : Refusal) → Err v ≡ measured x → x ≡ refused v
 refused_is (says j l) v e = let c : ◌≡◌ {A = ℕ} 0 1 = cc in absurd (omega arith)
 refused_is (refused u) v e = cc
 
@@ -40,14 +45,14 @@ module _ (s o : List ℕ) where
   unfolding decode_of decode_into
   read_long h = (rw (lt-ltb max_message_size (length s) h), rw (lt-ltb max_message_size (length s) h))
 
-  module _ (h : length s ≤ max_message_size) {r : Measured} (e : r ≡ measured (content_of s)) where
-    pub read_refused : {v : Refusal} → r ≡ m.Refused v → (Err v ≡ decode_of s (length o)) × (o ≡ decode_into s o)
+  module _ (h : length s ≤ max_message_size) {r : Result (ℕ × ℕ) Refusal} (e : r ≡ measured (content_of s)) where
+    pub read_refused : {v : Refusal} → r ≡ Err v → (Err v ≡ decode_of s (length o)) × (o ≡ decode_into s o)
     unfolding decode_of decode_into
     read_refused {v} g =
         let x : content_of s ≡ refused v = refused_is (content_of s) v (sym g ∙ e) in
         (rw (le-ltb max_message_size (length s) h, x), rw (le-ltb max_message_size (length s) h, x))
 
-    module _ {k n : ℕ} (g : r ≡ m.Good k n) where
+    module _ {k n : ℕ} (g : r ≡ Ok (k, n)) where
       the_message : (content_of s ≡ says k (addresses (content_of s))) × (n ≡ length (listed (addresses (content_of s))))
       the_message = good_is (content_of s) k n (sym g ∙ e)
 

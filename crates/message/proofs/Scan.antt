@@ -9,7 +9,7 @@ use lib.Dec.{ltb, leb, eqb}
 use lib.ListN.{length, take, drop, length-append, length-take, length-drop, drop_of_length-le}
 use lib.Seq.{drop-drop}
 use borrow.Author.Tests.{eq-eqb, ne_eqb, eqb-true, eqb-false, leb-true}
-use Rattle.std.specs.Prelude.{None, Option, Some, ℕ}
+use Rattle.std.specs.Prelude.{None, Option, Some, ℕ, Err, Ok, Result}
 use Rattle.prelude.specs.Choice.{pick}
 use Rattle.wire.specs.Varint.{varint_of}
 use Rattle.wire.proofs.Spans.{varint_size}
@@ -17,10 +17,9 @@ use Rattle.wire.specs.Lists.{entry, listed}
 use Rattle.protobuf.specs.Fields.{max_field, varint_field, fixed_field, bytes_field, payload_of, tagged, field_of}
 use Rattle.message.specs.Message.{Content, says, refused, also, known, ended, step, scan, content_of, addresses, measured}
 use Rattle.protobuf.specs.declared.Field.{Field}
-use Rattle.message.specs.declared.Measured.{Measured}
 use Rattle.refusal.specs.declared.Refusal.TheVariants as why
 use Rattle.protobuf.specs.declared.Field.TheVariants as f
-use Rattle.message.specs.declared.Measured.TheVariants as m
+use Rattle.refusal.specs.declared.Refusal.{Refusal}
 
 -- ---- sizes
 
@@ -130,13 +129,13 @@ scan_nil n k = scan_end [] n k refl
 -- ---- what is measured
 
 -- with n bytes more of list
-abbrev pub longer : ℕ → Measured → Measured
-longer n (m.Good k z) = m.Good k (n + z)
-longer n (m.Refused w) = m.Refused w
+abbrev pub longer : ℕ → Result (ℕ × ℕ) Refusal → Result (ℕ × ℕ) Refusal
+longer n (Ok (k, z)) = Ok (k, n + z)
+longer n (Err w) = Err w
 
-pub longer_none : (x : Measured) → longer 0 x ≡ x
-longer_none (m.Good k z) = let e : 0 + z ≡ z = omega arith in rw e
-longer_none (m.Refused w) = refl
+pub longer_none : (x : Result (ℕ × ℕ) Refusal) → longer 0 x ≡ x
+longer_none (Ok (k, z)) = let e : 0 + z ≡ z = omega arith in rw e
+longer_none (Err w) = refl
 
 pub listed_more : (a : List ℕ) (l : List (List ℕ)) → length (listed (a ∷ l)) ≡ 2 + length a + length (listed l)
 unfolding listed
@@ -146,10 +145,10 @@ pub longer_also : (n z : ℕ) (a : List ℕ) (x : Content) → length a ≡ z �
 longer_also n z a (says k l) h = let e : n + length (listed (a ∷ l)) ≡ n + (2 + z) + length (listed l) = omega (arith, listed_more a l) in rw e
 longer_also n z a (refused w) h = refl
 
-pub none_met : (n k : ℕ) → k ≡ 0 → longer n (measured (ended k)) ≡ m.Refused why.NoType
+pub none_met : (n k : ℕ) → k ≡ 0 → longer n (measured (ended k)) ≡ Err why.NoType
 none_met n k h = rw (eq-eqb k 0 h)
 
-pub one_met : (n k : ℕ) → (k ≡ 0 → ⊥) → longer n (measured (ended k)) ≡ m.Good k n
+pub one_met : (n k : ℕ) → (k ≡ 0 → ⊥) → longer n (measured (ended k)) ≡ Ok (k, n)
 unfolding listed
 one_met n k h = let e : n + 0 ≡ n = omega arith in rw (ne_eqb k 0 h, e)
 

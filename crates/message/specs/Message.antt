@@ -10,8 +10,6 @@ use Rattle.protobuf.specs.declared.Field.{Field}
 use Rattle.protobuf.specs.declared.Field.TheVariants as f
 use Rattle.message.specs.declared.Kind.{Kind}
 use Rattle.message.specs.declared.Kind.TheVariants.{Connect, Sync}
-use Rattle.message.specs.declared.Measured.{Measured}
-use Rattle.message.specs.declared.Measured.TheVariants as m
 
 -- the number of each type
 abbrev pub type_number : Kind → ℕ
@@ -63,9 +61,9 @@ addresses (says k xs) = xs
 addresses (refused w) = []
 
 -- the type, and how long the list of addresses is
-abbrev pub measured : Content → Measured
-measured (says k xs) = m.Good k (length (listed xs))
-measured (refused w) = m.Refused w
+abbrev pub measured : Content → Result (ℕ × ℕ) Refusal
+measured (says k xs) = Ok (k, length (listed xs))
+measured (refused w) = Err w
 
 -- bytes from the front of a buffer on; its other bytes stay
 abbrev pub over : List ℕ → List ℕ → List ℕ

@@ -22,12 +22,6 @@ pub enum Kind {
 
 // ---- Reading
 
-#[derive(Clone, Copy)]
-enum Measured {
-    Good { kind: u64, size: usize },
-    Refused(Refusal),
-}
-
 fn is_known(value: u64) -> bool
     ensures { result ≡ known value }
 {
@@ -46,7 +40,7 @@ fn kind_of(number: u64) -> Kind
 
 // The type, and how long the list of addresses is; or why the message is refused.
 #[tactic(auto, using(crate::proofs::Scan::typed_within, crate::proofs::Scan::address_within, crate::proofs::Scan::other_within))]
-fn measure(s: &[u8]) -> Measured
+fn measure(s: &[u8]) -> Result<(u64, usize), Refusal>
     ensures { result ≡ measured (content_of s.now) }
 {
     // A while: a field says how long it is only when it is read.
@@ -55,10 +49,10 @@ fn measure(s: &[u8]) -> Measured
     let mut size: usize = 0;
     while !rest.is_empty() {
         match protobuf::first_field(rest) {
-            Field::Malformed => return Measured::Refused(Refusal::Malformed),
+            Field::Malformed => return Err(Refusal::Malformed),
             Field::Typed { value, size: n } => {
                 if !is_known(value) {
-                    return Measured::Refused(Refusal::WrongType);
+                    return Err(Refusal::WrongType);
                 }
                 kind = value;
                 rest = &rest[n..];
@@ -71,9 +65,9 @@ fn measure(s: &[u8]) -> Measured
         }
     }
     if kind == 0 {
-        return Measured::Refused(Refusal::NoType);
+        return Err(Refusal::NoType);
     }
-    Measured::Good { kind, size }
+    Ok((kind, size))
 }
 
 // The addresses of an accepted message, as a list.
@@ -108,8 +102,8 @@ pub fn decode(message: &[u8], out: &mut [u8]) -> Result<(Kind, usize), Refusal>
         return Err(Refusal::MessageTooLong);
     }
     match measure(message) {
-        Measured::Refused(why) => Err(why),
-        Measured::Good { kind, size } => {
+        Err(why) => Err(why),
+        Ok((kind, size)) => {
             if out.len() < size {
                 return Err(Refusal::OutputTooShort);
             }

@@ -18,22 +18,18 @@ pub enum Field {
 }
 
 // Field n of wire type 0, behind a tag of t bytes.
+#[tactic(auto, using(crate::proofs::Fields::size_of))]
 fn varint_field(n: u64, t: usize, s: &[u8]) -> Field
     requires { t ≤ 10 }
     ensures { result ≡ varint_field n t (varint_of s.now) }
 {
     match wire::first_varint(s) {
         None => Field::Malformed,
-        Some((value, next)) => {
-            if n == 1 {
-                Field::Typed {
-                    value: value,
-                    size: t + next,
-                }
-            } else {
-                Field::Other { size: t + next }
-            }
-        }
+        Some((value, next)) if n == 1 => Field::Typed {
+            value,
+            size: t + next,
+        },
+        Some((_, next)) => Field::Other { size: t + next },
     }
 }
 
@@ -50,29 +46,26 @@ fn fixed_field(k: usize, t: usize, s: &[u8]) -> Field
 }
 
 // Field n of wire type 2.
+#[tactic(auto, using(crate::proofs::Fields::size_of))]
 fn bytes_field(n: u64, t: usize, s: &[u8]) -> Field
     requires { t ≤ 10 }
     ensures { result ≡ bytes_field n t s.now (varint_of s.now) }
 {
-    match wire::first_varint(s) {
-        None => Field::Malformed,
-        Some((value, next)) => {
-            let left = s.len() - next;
-            if (left as u64) < value {
-                return Field::Malformed;
-            }
-            let len = value as usize;
-            if n == 2 {
-                Field::Address {
-                    start: t + next,
-                    len: len,
-                }
-            } else {
-                Field::Other {
-                    size: t + next + len,
-                }
-            }
-        }
+    let Some((value, next)) = wire::first_varint(s) else {
+        return Field::Malformed;
+    };
+    if ((s.len() - next) as u64) < value {
+        return Field::Malformed;
+    }
+    let len = value as usize;
+    match n {
+        2 => Field::Address {
+            start: t + next,
+            len,
+        },
+        _ => Field::Other {
+            size: t + next + len,
+        },
     }
 }
 
@@ -81,36 +74,25 @@ fn payload(n: u64, w: u64, t: usize, s: &[u8]) -> Field
     requires { t ≤ 10 }
     ensures { result ≡ payload_of n w t s.now }
 {
-    if w == 0 {
-        return varint_field(n, t, s);
+    match w {
+        0 => varint_field(n, t, s),
+        1 => fixed_field(8, t, s),
+        2 => bytes_field(n, t, s),
+        5 => fixed_field(4, t, s),
+        _ => Field::Malformed,
     }
-    if w == 1 {
-        return fixed_field(8, t, s);
-    }
-    if w == 2 {
-        return bytes_field(n, t, s);
-    }
-    if w == 5 {
-        return fixed_field(4, t, s);
-    }
-    Field::Malformed
 }
 
 // The field that stands first.
+#[tactic(auto, unfolding(crate::specs::Fields::field_of), using(crate::proofs::Fields::size_of))]
 pub fn first_field(s: &[u8]) -> Field
     ensures { result ≡ field_of s.now }
 {
-    match wire::first_varint(s) {
-        None => Field::Malformed,
-        Some((value, next)) => {
-            let n = value / 8;
-            if n == 0 {
-                return Field::Malformed;
-            }
-            if MAX_FIELD < n {
-                return Field::Malformed;
-            }
-            payload(n, value % 8, next, &s[next..])
-        }
+    let Some((tag, t)) = wire::first_varint(s) else {
+        return Field::Malformed;
+    };
+    match tag / 8 {
+        n @ 1..=MAX_FIELD => payload(n, tag % 8, t, &s[t..]),
+        _ => Field::Malformed,
     }
 }

@@ -156,7 +156,7 @@ module _ {A : Type 0} where
   marked_by p [] ms = marked_none ms
   marked_by p (x ∷ xs) ms = rw (marked_by p xs ms) refl
 
-pub marks_such : (p : Row → Bool) (rs : List Row) → marked (marks_by p rs).keep rs ≡ such p rs
+pub marks_such : (p : Row → Bool) (rs : List Row) → marked (marks_by p rs) rs ≡ such p rs
 unfolding marks_by
 marks_such p rs = marked_by p rs _
 

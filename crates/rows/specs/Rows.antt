@@ -8,7 +8,6 @@ use Rattle.kinds.specs.declared.Entry.TheVariants.{Dialed, Window, Path, Other a
 use Rattle.kinds.specs.declared.Row.{Row}
 use Rattle.rows.specs.declared.Keep.{Keep}
 use Rattle.rows.specs.declared.Keep.TheVariants.{Below, Above, Other, Lasting}
-use Rattle.rows.specs.declared.Marks.{Marks}
 use Rattle.kinds.specs.Kinds.{entry_of}
 
 abbrev pub capacity : ℕ
@@ -42,8 +41,8 @@ marked (m ∷ ms) [] = []
 marked (m ∷ ms) (x ∷ xs) = pick m (x ∷ marked ms xs) (marked ms xs)
 
 -- a mark for each row in use
-unfoldable pub marks_by : (Row → Bool) → List Row → Marks
-marks_by p rs = record { keep = padded capacity false (map p rs) }
+unfoldable pub marks_by : (Row → Bool) → List Row → List Bool
+marks_by p rs = padded capacity false (map p rs)
 
 -- the rows of other keys
 abbrev pub without : ℕ → List Row → List Row

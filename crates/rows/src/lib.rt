@@ -43,10 +43,7 @@ pub enum Keep {
 }
 
 // For each place whether its row is kept.
-#[derive(Clone, Copy)]
-pub struct Marks {
-    pub keep: [bool; ROWS],
-}
+pub type Marks = [bool; ROWS];
 
 // ---- rows
 
@@ -179,13 +176,13 @@ fn divide(l: &mut Ledger, b: usize, n: usize, key: u64) -> usize
 // The marked rows move to the front. Answers how many they are.
 fn pack(l: &mut Ledger, b: usize, marks: Marks) -> usize
     requires { b ≤ start_of Paths }
-    ensures count { (result ≡ length (marked marks.keep (rows_from b l.old))) × (result ≤ length (rows_from b l.old)) }
-    ensures words { l.new ≡ tabled b (at l.old b) (filled (marked marks.keep (rows_from b l.old)) (places_of b l.old)) l.old }
+    ensures count { (result ≡ length (marked marks (rows_from b l.old))) × (result ≤ length (rows_from b l.old)) }
+    ensures words { l.new ≡ tabled b (at l.old b) (filled (marked marks (rows_from b l.old)) (places_of b l.old)) l.old }
 {
     let n = count(l, b);
     let mut m = 0;
     for i in 0..n {
-        if marks.keep[i] {
+        if marks[i] {
             if m < i {
                 write(l, b, m, read(l, b, i));
             }
@@ -238,18 +235,16 @@ fn marks_from(l: &Ledger, b: usize, keep: Keep) -> Marks
     requires { b ≤ start_of Paths }
     ensures { result ≡ marks_by (keeps_row keep) (rows_from b l.now) }
 {
-    let mut marks = Marks {
-        keep: [false; ROWS],
-    };
+    let mut marks = [false; ROWS];
     for i in 0..count(l, b) {
-        marks.keep[i] = keeps(keep, read(l, b, i));
+        marks[i] = keeps(keep, read(l, b, i));
     }
     marks
 }
 
 fn retain_from(l: &mut Ledger, b: usize, marks: Marks)
     requires { b ≤ start_of Paths }
-    ensures { l.new ≡ laid_from b (marked marks.keep (rows_from b l.old)) l.old }
+    ensures { l.new ≡ laid_from b (marked marks (rows_from b l.old)) l.old }
 {
     let n = count(l, b);
     let m = pack(l, b, marks);
@@ -335,7 +330,7 @@ pub fn retain(l: &mut Ledger, table: Table, keep: Keep)
 
 // The rows that are marked.
 pub fn retain_marked(l: &mut Ledger, table: Table, marks: Marks)
-    ensures { l.new ≡ laid table (marked marks.keep (rows_of table l.old)) l.old }
+    ensures { l.new ≡ laid table (marked marks (rows_of table l.old)) l.old }
 {
     retain_from(l, start_of(table), marks);
 }

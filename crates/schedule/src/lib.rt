@@ -7,6 +7,7 @@ ghost use Rattle.schedule.specs.Instants.{half_of, start_of, instants, count_to}
 ghost use Rattle.schedule.specs.Schedule.{schedule_of, due_of, window_of, opened_of, next_of};
 ghost use Rattle.schedule.specs.Readings.{none, largest_of, counted, sum_all, Once, FirstWithReply};
 
+// A state with methods of its own, which an `Option` of its fields could not have: an enum.
 #[derive(Clone, Copy)]
 pub enum BlastSchedule {
     // The next instant, and the window's end.
@@ -23,13 +24,15 @@ pub struct NewlyDue {
 }
 
 // Half of a round trip, rounded up.
+#[tactic(auto, unfolding(crate::specs::Instants::half_of))]
 fn half(rtt: u64) -> u64
     ensures { result ≡ half_of rtt }
 {
-    rtt / 2 + rtt % 2
+    rtt.div_ceil(2)
 }
 
 // When the window opens whose reply came at now.
+#[tactic(auto, unfolding(crate::specs::Instants::start_of))]
 pub fn blast_start(now: u64, rtt: u64) -> u64
     ensures { result ≡ start_of now rtt }
 {
@@ -39,103 +42,85 @@ pub fn blast_start(now: u64, rtt: u64) -> u64
 fn step(interval: u64) -> u64
     ensures { result ≡ max interval 1 }
 {
-    if interval == 0 {
-        return 1;
-    }
-    interval
+    interval.max(1)
 }
 
 // The count of the instants at, at + interval, .. up to until that are no later than now.
 fn count_due(at: u64, until: u64, interval: u64, now: u64) -> u64
     ensures { result ≡ min (count_to now (instants at interval until)) last }
 {
-    let limit = time::min(until, now);
+    let limit = until.min(now);
     if limit < at {
         return 0;
     }
-    let more = (limit - at) / step(interval);
-    if more == time::LAST {
-        return time::LAST;
-    }
-    more + 1
+    ((limit - at) / step(interval)).saturating_add(1)
 }
 
 // The schedule after the first `times` of the instants at, at + interval, .. up to until.
 fn move_on(at: u64, until: u64, interval: u64, times: u64) -> BlastSchedule
     ensures { result ≡ schedule_of until (drop times (instants at interval until)) }
 {
-    if until < at {
-        return BlastSchedule::Over;
-    }
     let each = step(interval);
-    if (until - at) / each < times {
+    if until < at || (until - at) / each < times {
         return BlastSchedule::Over;
     }
     BlastSchedule::Next {
         at: at + times * each,
-        until: until,
+        until,
     }
 }
 
 impl BlastSchedule {
+    #[tactic(auto, unfolding(crate::specs::Schedule::window_of))]
     fn new(start: u64, until: u64) -> Self
         ensures { result ≡ window_of start until }
     {
         if start <= until {
-            return BlastSchedule::Next {
-                at: start,
-                until: until,
-            };
+            BlastSchedule::Next { at: start, until }
+        } else {
+            BlastSchedule::Over
         }
-        BlastSchedule::Over
     }
 
     // The schedule of a window that a reply with this round trip opens.
+    #[tactic(auto, unfolding(crate::specs::Schedule::opened_of))]
     pub fn open(start: u64, until: u64, interval: u64, rtt: u64) -> NewlyDue
         ensures { result ≡ opened_of start until interval rtt }
     {
         let schedule = BlastSchedule::new(start, until);
-        if rtt == 0 {
-            return schedule.newly_due(interval, start);
-        }
-        NewlyDue {
-            schedule: schedule,
-            times: 0,
+        match rtt {
+            0 => schedule.newly_due(interval, start),
+            _ => NewlyDue { schedule, times: 0 },
         }
     }
 
+    #[tactic(auto, unfolding(crate::specs::Schedule::due_of, crate::specs::Schedule::times_of, crate::specs::Schedule::without, crate::specs::Schedule::ahead, crate::specs::Instants::count_to, prelude::specs::Lists::count))]
     pub fn newly_due(self, interval: u64, now: u64) -> NewlyDue
         ensures { result ≡ due_of self interval now }
     {
         match self {
             BlastSchedule::Next { at, until } => {
                 let times = count_due(at, until, interval, now);
-                let schedule = move_on(at, until, interval, times);
-                return NewlyDue {
-                    schedule: schedule,
-                    times: times,
-                };
+                NewlyDue {
+                    schedule: move_on(at, until, interval, times),
+                    times,
+                }
             }
-            BlastSchedule::Over => {
-                return NewlyDue {
-                    schedule: BlastSchedule::Over,
-                    times: 0,
-                };
-            }
+            BlastSchedule::Over => NewlyDue {
+                schedule: BlastSchedule::Over,
+                times: 0,
+            },
         }
     }
 
     // When to look at the schedule of a window with this end again.
+    #[tactic(auto, unfolding(crate::specs::Schedule::next_of))]
     pub fn next_deadline(self, end: u64) -> u64
         ensures { result ≡ next_of self end }
     {
         match self {
-            BlastSchedule::Next { at, until } => {
-                return time::min(at, time::min(until, end));
-            }
-            BlastSchedule::Over => {
-                return end;
-            }
+            BlastSchedule::Next { at, until } => at.min(until.min(end)),
+            BlastSchedule::Over => end,
         }
     }
 }

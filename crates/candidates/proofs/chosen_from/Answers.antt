@@ -9,7 +9,7 @@ use Rattle.candidates.proofs.Answers.{held_small, answer_refused, answer_kept}
 use Rattle.candidates.proofs.chosen_from.Goals as goal
 
 pub returns-then-is_broken : goal.returns-then-is_broken
-returns-then-is_broken c = answer_refused c.args.list.now _ c.is_broken.ensures c.if-is_broken.true c.empty.ensures
+returns-then-is_broken c = answer_refused c.args.list.now _ c.is_broken.ensures c.if-is_broken.true
 
 pub choose-requires : goal.choose-requires
 choose-requires c = omega (arith, ap (λ (l : Limits). l.total) c.held.ensures, held_small c.args.l)

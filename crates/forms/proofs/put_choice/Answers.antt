@@ -1,40 +1,36 @@
-use mathlib.Core.Path.{refl, ap, ◌∙◌}
-use native.Mathlib.Omega.{arith}
-use lib.ListN.{length}
-use Rattle.text.proofs.Printing.{parts, laid}
-use Rattle.forms.proofs.Choices.{word_fits}
-use Rattle.forms.proofs.Print.{same, from, nothing_put, this_word, no_word, next_word}
+use mathlib.Core.Path.{◌≡◌, sym, ap, ◌∙◌}
+use mathlib.Core.List.{[]}
+use Rattle.std.proofs.Common.{rules, tests}
+use Rattle.std.proofs.lemmas.Iterator.Consumers.{nth_from_yields_List}
+use Rattle.std.proofs.lemmas.Iterator.Splits.{YieldsList-from_slice_split}
+use Rattle.std.proofs.lemmas.Option.{unwrap_or-slice_get}
+use Rattle.std.specs.List.{slice_get}
+use Rattle.std.specs.Option.{option_map, unwrap_or}
+use lib.Dec.{eqb}
+use Rattle.text.proofs.Printing.{parts, laid, laid_none}
+use Rattle.forms.specs.Forms.{split}
+use Rattle.forms.specs.Texts.{word_at}
+use Rattle.forms.proofs.Choices.{split_is}
+use Rattle.forms.proofs.Print.{same}
 use Rattle.forms.proofs.put_choice.Goals as goal
+use Rattle.forms.proofs.put_choice.Goals.{After-nth}
 
-pub loop-j-init : goal.loop-j-init
-loop-j-init c = (omega arith, refl, refl)
+word_is : (c : After-nth) → unwrap_or (option_map (λ w. w.now) c.nth.result) [] ≡ word_at c.args.choice.now c.args.k
+word_is c =
+    ap (λ r. unwrap_or r [])
+    (nth_from_yields_List _ _ c.args.k c.nth.ensures.ran
+    (YieldsList-from_slice_split _ (λ b. eqb b 47) c.args.choice.now c.split.ensures.rest c.split.ensures.done c.split.ensures.closure (λ x r q k. search (rules, tests)))
+    ∙ ap (λ ws. slice_get ws c.args.k) (split_is c.args.choice.now))
+    ∙ unwrap_or-slice_get (split c.args.choice.now) c.args.k []
 
-pub overflow_add-e : goal.overflow_add-e
-overflow_add-e c = omega (arith, word_fits c.args.choice.now c.loop-j.w c.loop-j.invariant.0 c.length_before-n.ensures)
+pub returns-in-Some : goal.returns-in-Some
+returns-in-Some c =
+    let e = ap (λ r. unwrap_or (option_map (λ w. w.now) r) []) (sym c.in-Some.is) ∙ word_is (goal.at.returns-in-Some c).After-nth in
+    let t = parts (same (sym e) (laid _ _ _ (c.put_text.ensures.bytes, c.put_text.ensures.place))) in
+    record { bytes = t.0; place = t.1 }
 
-pub slice_bounds-put_text-count : goal.slice_bounds-put_text-count
-slice_bounds-put_text-count c = omega (arith, word_fits c.args.choice.now c.loop-j.w c.loop-j.invariant.0 c.length_before-n.ensures)
-
-pub slice_bounds-put_text-start : goal.slice_bounds-put_text-start
-slice_bounds-put_text-start c = omega (arith, word_fits c.args.choice.now c.loop-j.w c.loop-j.invariant.0 c.length_before-n.ensures)
-
-pub slice_bounds-put_text-end : goal.slice_bounds-put_text-end
-slice_bounds-put_text-end c = omega (arith, word_fits c.args.choice.now c.loop-j.w c.loop-j.invariant.0 c.length_before-n.ensures)
-
-pub shape_of-out-then-j-eq0 : goal.shape_of-out-then-j-eq0
-shape_of-out-then-j-eq0 c = c.put_text.auto.out ∙ ap length c.loop-j.invariant.2
-
-pub returns-then-j-eq0 : goal.returns-then-j-eq0
-returns-then-j-eq0 c = record { bytes = (parts (from c.loop-j.invariant.2 (same (this_word _ _ _ _ c.loop-j.invariant.1 c.loop-j.invariant.0 c.length_before-n.ensures c.if-j-eq0.true) (laid _ _ _ (c.put_text.ensures.bytes, c.put_text.ensures.place))))).0; place = (parts (from c.loop-j.invariant.2 (same (this_word _ _ _ _ c.loop-j.invariant.1 c.loop-j.invariant.0 c.length_before-n.ensures c.if-j-eq0.true) (laid _ _ _ (c.put_text.ensures.bytes, c.put_text.ensures.place))))).1 }
-
-pub shape_of-out-then-choice-e : goal.shape_of-out-then-choice-e
-shape_of-out-then-choice-e c = ap length c.loop-j.invariant.2
-
-pub returns-then-choice-e : goal.returns-then-choice-e
-returns-then-choice-e c = record { bytes = (parts (same (no_word _ _ _ _ c.loop-j.invariant.1 c.loop-j.invariant.0 c.length_before-n.ensures c.if-j-eq0.false c.if-choice-e.true) (nothing_put _ _ _ c.loop-j.invariant.2))).0; place = (parts (same (no_word _ _ _ _ c.loop-j.invariant.1 c.loop-j.invariant.0 c.length_before-n.ensures c.if-j-eq0.false c.if-choice-e.true) (nothing_put _ _ _ c.loop-j.invariant.2))).1 }
-
-pub loop-j-smaller : goal.loop-j-smaller
-loop-j-smaller c = omega (arith, word_fits c.args.choice.now c.loop-j.w c.loop-j.invariant.0 c.length_before-n.ensures)
-
-pub loop-j-preserved : goal.loop-j-preserved
-loop-j-preserved c = (omega arith, next_word _ _ _ _ c.loop-j.invariant.1 c.loop-j.invariant.0 c.length_before-n.ensures c.if-j-eq0.false c.if-choice-e.false, c.loop-j.invariant.2)
+pub returns-in-None : goal.returns-in-None
+returns-in-None c =
+    let e = ap (λ r. unwrap_or (option_map (λ w. w.now) r) []) (sym c.in-None.is) ∙ word_is (goal.at.returns-in-None c).After-nth in
+    let t = parts (same (sym e) (laid_none _ _)) in
+    record { bytes = t.0; place = t.1 }

@@ -1,24 +1,15 @@
-use mathlib.Core.Path.{refl, ◌∙◌}
-use native.Mathlib.Omega.{arith}
-use Rattle.text.proofs.Printing.{laid, laid_none, text_more}
-use Rattle.forms.proofs.Walk.{literal}
-use Rattle.forms.proofs.Print.{none_past, past_literal, at_mark, at_end, up_to}
+use mathlib.Core.Path.{◌≡◌, sym, ◌∙◌}
+use mathlib.Core.Bool.{true, false}
+use Rattle.std.proofs.Common.{rules, tests}
+use Rattle.std.proofs.lemmas.Iterator.{index_from_first, IsFirst-from_position, YieldsList-from_slice}
+use Rattle.forms.specs.Forms.{kind_of, is_literal, literals}
+use Rattle.forms.proofs.Print.{literals_none, literals_stop, literals_go_on}
 use Rattle.forms.proofs.put_literals.Goals as goal
 
-pub loop-i-init : goal.loop-i-init
-loop-i-init c = (omega arith, none_past _, laid_none _ _, refl)
-
-pub loop-i-preserved : goal.loop-i-preserved
-loop-i-preserved c = (omega arith, past_literal _ _ c.loop-i.invariant.1 c.loop-i-test.true (literal _ c.is_literal.ensures c.kind_of-kind.ensures c.if-is_literal.true), text_more _ _ c.loop-i-test.true c.loop-i.invariant.2 (laid _ _ _ (c.put_byte-p.ensures.bytes, c.put_byte-p.ensures.place)), c.put_byte-p.auto.out ∙ c.loop-i.invariant.3)
-
-pub shape_of-out-else-is_literal : goal.shape_of-out-else-is_literal
-shape_of-out-else-is_literal c = c.loop-i.invariant.3
-
-pub returns-else-is_literal : goal.returns-else-is_literal
-returns-else-is_literal c = record { bytes = (up_to _ _ (at_mark _ _ c.loop-i.invariant.1 c.loop-i-test.true (literal _ c.is_literal.ensures c.kind_of-kind.ensures c.if-is_literal.false)) c.loop-i.invariant.2).0; count = (up_to _ _ (at_mark _ _ c.loop-i.invariant.1 c.loop-i-test.true (literal _ c.is_literal.ensures c.kind_of-kind.ensures c.if-is_literal.false)) c.loop-i.invariant.2).1 }
-
-pub shape_of-out : goal.shape_of-out
-shape_of-out c = c.loop-i.invariant.3
-
 pub returns : goal.returns
-returns c = record { bytes = (up_to _ _ (at_end _ _ c.loop-i.invariant.1 c.loop-i-test.false) c.loop-i.invariant.2).0; count = (up_to _ _ (at_end _ _ c.loop-i.invariant.1 c.loop-i-test.false) c.loop-i.invariant.2).1 }
+returns c =
+    let s = c.args.form.now in
+    let e = c.unwrap_or-n.ensures
+    ∙ sym (index_from_first literals (λ b. is_literal (kind_of b) ≡ false) (λ b. is_literal (kind_of b) ≡ true) (literals_none) literals_stop literals_go_on s c.position.result
+    (IsFirst-from_position _ _ _ (λ b. is_literal (kind_of b) ≡ false) (λ b. is_literal (kind_of b) ≡ true) c.position.ensures.ran (YieldsList-from_slice s cc) (λ x q k. search (rules, tests)) (λ x q k. search (rules, tests)))) in
+    record { bytes = rw (← e) c.put_text.ensures.bytes; count = e }

@@ -18,8 +18,8 @@ returns c =
     let a = c.args in
     let w = a.l.now in
     let h = c.known.ensures in
-    let rs = each (left_of a.id) (pairs (rows_of Dials w) a.firsts.rows) in
-    let k : length rs ≤ 64 = omega (arith, left_≤ a.id (rows_of Dials w) a.firsts.rows, used_is 0 w) in
+    let rs = each (left_of a.id) (pairs (rows_of Dials w) a.firsts) in
+    let k : length rs ≤ 64 = omega (arith, left_≤ a.id (rows_of Dials w) a.firsts, used_is 0 w) in
     let e = c.abort_with.ensures.answer in
     let s = c.abort_with.ensures.words in
     record { retired = ap (λ (d : Dropped). d.retired) e; close = ap (λ (d : Dropped). d.close) e; tables = ap tables_of s ∙ dials_tables w h rs k; words = s ∙ dials_words w h rs k }

@@ -1,12 +1,11 @@
 use Prim.Native.Nat.{◌≤◌, ◌<◌, ◌+◌}
 use mathlib.Core.Path.{◌≡◌, refl, ap, sym, ◌∙◌}
-use mathlib.Core.Bool.{true, false}
+use mathlib.Core.Bool.{Bool, true, false}
 use mathlib.Core.List.{List}
 use native.Mathlib.Omega.{arith}
 use borrow.Author.Tests.{leb-false}
 use lib.ListN.{length}
 use Rattle.kinds.specs.declared.Row.{Row}
-use Rattle.rows.specs.declared.Marks.{Marks}
 use Rattle.rows.specs.declared.Keep.TheVariants.{Other}
 use Rattle.rows.specs.Rows.{marked, keeps_row, without, inserted, crowded}
 use Rattle.rows.specs.Words.{at, rows_from, places_of, tabled, filled}
@@ -31,7 +30,7 @@ divide-m-requires c =
     let a = c.args in
     let rs = rows_from a.b a.l.now in
     let e : crowded a.row.key rs ≡ false = sym c.is_crowded_from.ensures ∙ c.if-is_crowded_from.false in
-    let q : marked c.marks_from-marks.result.keep rs ≡ without a.row.key rs = ap (λ (ms : Marks). marked ms.keep rs) c.marks_from-marks.ensures ∙ marks_such (keeps_row (Other a.row.key)) rs in
+    let q : marked c.marks_from-marks.result rs ≡ without a.row.key rs = ap (λ (ms : List Bool). marked ms rs) c.marks_from-marks.ensures ∙ marks_such (keeps_row (Other a.row.key)) rs in
     (omega arith, omega (arith, leb-false 64 (length (without a.row.key rs)) e, c.pack-n.ensures.count.0 ∙ ap length q))
 
 pub write-requires : goal.write-requires
@@ -39,7 +38,7 @@ write-requires c =
     let a = c.args in
     let rs = rows_from a.b a.l.now in
     let e : crowded a.row.key rs ≡ false = sym c.is_crowded_from.ensures ∙ c.if-is_crowded_from.false in
-    let q : marked c.marks_from-marks.result.keep rs ≡ without a.row.key rs = ap (λ (ms : Marks). marked ms.keep rs) c.marks_from-marks.ensures ∙ marks_such (keeps_row (Other a.row.key)) rs in
+    let q : marked c.marks_from-marks.result rs ≡ without a.row.key rs = ap (λ (ms : List Bool). marked ms rs) c.marks_from-marks.ensures ∙ marks_such (keeps_row (Other a.row.key)) rs in
     (omega arith, omega (arith, leb-false 64 (length (without a.row.key rs)) e, c.pack-n.ensures.count.0 ∙ ap length q))
 
 pub bring-requires : goal.bring-requires
@@ -47,7 +46,7 @@ bring-requires c =
     let a = c.args in
     let rs = rows_from a.b a.l.now in
     let e : crowded a.row.key rs ≡ false = sym c.is_crowded_from.ensures ∙ c.if-is_crowded_from.false in
-    let q : marked c.marks_from-marks.result.keep rs ≡ without a.row.key rs = ap (λ (ms : Marks). marked ms.keep rs) c.marks_from-marks.ensures ∙ marks_such (keeps_row (Other a.row.key)) rs in
+    let q : marked c.marks_from-marks.result rs ≡ without a.row.key rs = ap (λ (ms : List Bool). marked ms rs) c.marks_from-marks.ensures ∙ marks_such (keeps_row (Other a.row.key)) rs in
     (omega arith, omega arith, omega (arith, leb-false 64 (length (without a.row.key rs)) e, c.pack-n.ensures.count.0 ∙ ap length q))
 
 pub overflow_add-n : goal.overflow_add-n
@@ -58,7 +57,7 @@ settle-requires c =
     let a = c.args in
     let rs = rows_from a.b a.l.now in
     let e : crowded a.row.key rs ≡ false = sym c.is_crowded_from.ensures ∙ c.if-is_crowded_from.false in
-    let q : marked c.marks_from-marks.result.keep rs ≡ without a.row.key rs = ap (λ (ms : Marks). marked ms.keep rs) c.marks_from-marks.ensures ∙ marks_such (keeps_row (Other a.row.key)) rs in
+    let q : marked c.marks_from-marks.result rs ≡ without a.row.key rs = ap (λ (ms : List Bool). marked ms rs) c.marks_from-marks.ensures ∙ marks_such (keeps_row (Other a.row.key)) rs in
     (omega arith, omega arith, omega (arith, leb-false 64 (length (without a.row.key rs)) e, c.pack-n.ensures.count.0 ∙ ap length q))
 
 pub returns : goal.returns
@@ -69,7 +68,7 @@ returns c =
     let ps = places_of a.b w in
     let h : a.b + 321 ≤ length w = omega (arith, c.told-l) in
     let e : crowded a.row.key rs ≡ false = sym c.is_crowded_from.ensures ∙ c.if-is_crowded_from.false in
-    let q : marked c.marks_from-marks.result.keep rs ≡ without a.row.key rs = ap (λ (ms : Marks). marked ms.keep rs) c.marks_from-marks.ensures ∙ marks_such (keeps_row (Other a.row.key)) rs in
+    let q : marked c.marks_from-marks.result rs ≡ without a.row.key rs = ap (λ (ms : List Bool). marked ms rs) c.marks_from-marks.ensures ∙ marks_such (keeps_row (Other a.row.key)) rs in
     let n : c.pack-n.result ≡ length (without a.row.key rs) = c.pack-n.ensures.count.0 ∙ ap length q in
     let f : c.pack-n.result < 64 = omega (arith, leb-false 64 (length (without a.row.key rs)) e) in
     let g : length (without a.row.key rs) ≤ length ps = omega (arith, length_places a.b w) in

@@ -1,7 +1,6 @@
 use Prim.Native.Nat.{◌<◌}
 use mathlib.Core.Path.{◌≡◌, ap, sym, ◌∙◌}
-use mathlib.Core.Bool.{Bool, false}
-use mathlib.Core.List.{List}
+use mathlib.Core.Bool.{false}
 use native.Mathlib.Omega.{arith}
 use lib.ListN.{length, get_or}
 use lib.Seq.{get_or-take}
@@ -28,4 +27,4 @@ returns c =
     let a = c.args in
     let x = c.loop-i in
     let rs = rows_from a.b a.l.now in
-    ap (λ (ms : List Bool). record { keep = ms }) (x.invariant ∙ map_all (keeps_row a.keep) false rs x.i (omega arith))
+    x.invariant ∙ map_all (keeps_row a.keep) false rs x.i (omega arith)

@@ -8,4 +8,4 @@ use Rattle.rows.specs.Words.{rows_from}
 use Rattle.rows.proofs.marks_from.Given as goal
 
 abbrev pub invariant-loop-i : goal.invariant-loop-i
-invariant-loop-i l = l.marks.keep ≡ map (keeps_row l.keep) (take l.i (rows_from l.b l.l)) ++ replicate (64 - l.i) false
+invariant-loop-i l = l.marks ≡ map (keeps_row l.keep) (take l.i (rows_from l.b l.l)) ++ replicate (64 - l.i) false

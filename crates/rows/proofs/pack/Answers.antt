@@ -22,13 +22,13 @@ loop-i-preserved c =
     let w = a.l.now in
     let x = c.loop-i in
     let ps = places_of a.b w in
-    let xs = marked (take x.i a.marks.keep) (take x.i (rows_from a.b w)) in
+    let xs = marked (take x.i a.marks) (take x.i (rows_from a.b w)) in
     let h : a.b + 321 ≤ length w = omega (arith, c.told-l) in
     let p : x.i < length ps = omega (arith, length_places a.b w) in
     let r : x.i < length (rows_from a.b w) = omega arith in
     elim c.if-marks-i.branch [
       | then-marks-i u ↦
-          let q = marked_more a.marks.keep ps (at w a.b) x.i no_row r u.if-marks-i.true in
+          let q = marked_more a.marks ps (at w a.b) x.i no_row r u.if-marks-i.true in
           let l : length xs ≤ length ps = omega arith in
           elim u.if-m-i.branch [
             | then-m-i v ↦
@@ -39,7 +39,7 @@ loop-i-preserved c =
                 rw (u.m-is, u.l-is, v.l-is, q) (omega arith, simp length-append (omega arith), subst (Holds a.b w x.l) (fill_same xs ps l x.i z p) x.invariant.2)
           ]
       | else-marks-i u ↦
-          let q = marked_skip a.marks.keep ps (at w a.b) x.i no_row r u.if-marks-i.false in
+          let q = marked_skip a.marks ps (at w a.b) x.i no_row r u.if-marks-i.false in
           rw (u.m-is, u.l-is, q) (omega arith, x.invariant.1, x.invariant.2)
     ]
 
@@ -49,5 +49,5 @@ returns c =
     let w = a.l.now in
     let x = c.loop-i in
     let rs = rows_from a.b w in
-    let q = marked_all a.marks.keep rs x.i (omega arith) in
+    let q = marked_all a.marks rs x.i (omega arith) in
     record { count = (rw q at x.invariant.1, omega (arith, c.count-n.ensures)); words = rw q at x.invariant.2.is }

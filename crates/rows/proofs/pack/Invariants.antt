@@ -7,4 +7,4 @@ use Rattle.rows.proofs.Tables.{Holds}
 use Rattle.rows.proofs.pack.Given as goal
 
 abbrev pub invariant-loop-i : goal.invariant-loop-i
-invariant-loop-i l = (l.m ≤ l.i) × (l.m ≡ length (marked (take l.i l.marks.keep) (take l.i (rows_from l.b l.initial.l)))) × Holds l.b l.initial.l l.l (filled (marked (take l.i l.marks.keep) (take l.i (rows_from l.b l.initial.l))) (places_of l.b l.initial.l))
+invariant-loop-i l = (l.m ≤ l.i) × (l.m ≡ length (marked (take l.i l.marks) (take l.i (rows_from l.b l.initial.l)))) × Holds l.b l.initial.l l.l (filled (marked (take l.i l.marks) (take l.i (rows_from l.b l.initial.l))) (places_of l.b l.initial.l))

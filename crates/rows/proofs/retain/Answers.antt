@@ -1,7 +1,7 @@
+use mathlib.Core.Bool.{Bool}
 use mathlib.Core.Path.{ap, ◌∙◌}
 use mathlib.Core.List.{List}
 use Rattle.kinds.specs.declared.Row.{Row}
-use Rattle.rows.specs.declared.Marks.{Marks}
 use Rattle.rows.specs.Rows.{marked, keeps_row}
 use Rattle.rows.specs.Words.{rows_from, laid_from}
 use Rattle.rows.proofs.Lists.{marks_such}
@@ -13,4 +13,4 @@ returns c =
     let w = a.l.now in
     let b = c.start_of-b.result in
     let rs = rows_from b w in
-    rw c.start_of-b.ensures.0 at (c.retain_from.ensures ∙ ap (λ (xs : List Row). laid_from b xs w) (ap (λ (ms : Marks). marked ms.keep rs) c.marks_from-marks.ensures ∙ marks_such (keeps_row a.keep) rs))
+    rw c.start_of-b.ensures.0 at (c.retain_from.ensures ∙ ap (λ (xs : List Row). laid_from b xs w) (ap (λ (ms : List Bool). marked ms rs) c.marks_from-marks.ensures ∙ marks_such (keeps_row a.keep) rs))

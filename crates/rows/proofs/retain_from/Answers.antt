@@ -18,8 +18,8 @@ returns c =
     let a = c.args in
     let w = a.l.now in
     let rs = rows_from a.b w in
-    let xs = marked a.marks.keep rs in
+    let xs = marked a.marks rs in
     let h : a.b + 321 ≤ length w = omega (arith, c.told-l) in
-    let k : length xs ≤ 64 = omega (arith, marked_≤ a.marks.keep rs, c.count-n.ensures) in
+    let k : length xs ≤ 64 = omega (arith, marked_≤ a.marks rs, c.count-n.ensures) in
     let g : length xs ≤ length (places_of a.b w) = omega (arith, length_places a.b w) in
     settled a.b w h xs k (record { is = c.pack-m.ensures.words; full = length_filled xs (places_of a.b w) g ∙ length_places a.b w }) c.count-n.result c.pack-m.result c.count-n.ensures.0 c.pack-m.ensures.count.0 c.settle.ensures
