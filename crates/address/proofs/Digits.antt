@@ -75,9 +75,6 @@ address_short family n s e =
     (both_second (eqb (get_or s (n + 1) 0) 0x91) _ (both_second (eqb (get_or s 0 0) family) _ (both_second (leb (n + 7) (length s)) _ e))))) in
     omega (arith, end_short (drop (n + 7) s) r, length-drop (n + 7) s)
 
-pub part_long : (a e : ℕ) (s : List ℕ) → a ≤ e → e ≤ length s → length (take (e - a) (drop a s)) ≡ e - a
-part_long a e s h g = simp (length-take, length-drop) (omega arith)
-
 pub parsed4 : (s : List ℕ) {r : Bool} {x y : ℕ} → r ≡ has_form 0x04 4 s → r ≡ true → x ≡ number 1 5 s → y ≡ number 7 9 s → Some (V4 x, y) ≡ parsed s
 unfolding parsed
 parsed4 s e t p q = rw (sym e ∙ t, p, q)

@@ -121,20 +121,15 @@ fn same_leading_bits_128(ah: u64, al: u64, ph: u64, pl: u64, len: u32) -> bool
     if len <= 64 {
         return same_leading_bits_64(ah, ph, len);
     }
-    if ah == ph {
-        return same_leading_bits_64(al, pl, len - 64);
-    }
-    false
+    ah == ph && same_leading_bits_64(al, pl, len - 64)
 }
 
 fn lies_in(ip: Ip, prefix: Prefix) -> bool
     ensures { result ≡ lies_in ip prefix }
 {
     match (ip, prefix) {
-        (Ip::V4(a), Prefix::Net4(p, len)) => { same_leading_bits_32(a, p, len) }
-        (Ip::V6(ah, al), Prefix::Net6(ph, pl, len)) => {
-            same_leading_bits_128(ah, al, ph, pl, len)
-        }
+        (Ip::V4(a), Prefix::Net4(p, len)) => same_leading_bits_32(a, p, len),
+        (Ip::V6(ah, al), Prefix::Net6(ph, pl, len)) => same_leading_bits_128(ah, al, ph, pl, len),
         _ => false,
     }
 }

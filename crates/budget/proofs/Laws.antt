@@ -1,43 +1,17 @@
 -- What the definitions of a budget give in each case.
 -- Assumes nothing.
--- a round begins below the most rounds
 use mathlib.Core.Path.{◌≡◌, refl}
 use mathlib.Core.Bool.{Bool, true, false}
 use mathlib.Core.List.{[], ◌∷◌}
-use Prim.Native.Nat.{ℕ, ◌-◌, ◌≤◌, ◌<◌}
-use borrow.Author.Tests.{ltb-true, le-leb, lt-leb, lt-ltb, le-ltb}
+use Prim.Native.Nat.{ℕ, ◌-◌, ◌≤◌}
+use borrow.Author.Tests.{le-leb, lt-ltb, le-ltb}
 use native.Mathlib.Omega.{arith}
 use lib.Dec.{ltb, leb}
 use Rattle.std.specs.Prelude.{Some}
 use Rattle.prelude.specs.Choice.{pick, both}
-use Rattle.budget.specs.Budget.{max_rounds, may_begin, one_more, begun, upgrade_due, due_at, values_of}
+use Rattle.budget.specs.Budget.{may_begin, one_more, begun, upgrade_due, due_at, values_of}
 use Rattle.budget.specs.declared.UpgradeBudget.{UpgradeBudget}
 use Rattle.budget.specs.declared.UpgradeStop.TheVariants.{ExchangeTimeout, UpgradeTimeout}
-
-pub may_rounds : (b : UpgradeBudget) (at : ℕ) → may_begin b at ≡ true → b.rounds < max_rounds
-unfolding may_begin
-may_rounds b at h = go (ltb b.rounds max_rounds) refl h
-  where
-    go : (t : Bool) → ltb b.rounds max_rounds ≡ t → both t (ltb at b.deadline) ≡ true → b.rounds < max_rounds
-    go true e h = ltb-true _ _ e
-    go false e h = let z : ◌≡◌ {A = ℕ} 0 1 = cc in absurd (omega arith)
-
--- an exchange that ended before the deadline
-pub exchange_due : (b : UpgradeBudget) (at started end ms : ℕ) → b.running ≡ Some (started, end) → end ≤ at
-    → ltb end b.deadline ≡ true → ms ≡ end - started → Some (ExchangeTimeout b.rounds ms) ≡ due_at b at
-unfolding due_at
-exchange_due b at started end ms r h k m = simp (r, le-leb end at h, k, m)
-
--- one that the deadline cut short
-pub cut_due : (b : UpgradeBudget) (at started end : ℕ) → b.running ≡ Some (started, end) → end ≤ at
-    → ltb end b.deadline ≡ false → upgrade_due b at ≡ due_at b at
-unfolding due_at
-cut_due b at started end r h k = simp (r, le-leb end at h, k)
-
--- one that still runs
-pub running_due : (b : UpgradeBudget) (at started end : ℕ) → b.running ≡ Some (started, end) → at < end → upgrade_due b at ≡ due_at b at
-unfolding due_at
-running_due b at started end r h = simp (r, lt-leb end at h)
 
 -- whether a round began is told by the rounds
 pub round_told : (b : UpgradeBudget) (at : ℕ) → ltb b.rounds (begun b at).rounds ≡ may_begin b at

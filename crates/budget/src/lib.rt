@@ -76,8 +76,7 @@ impl UpgradeBudget {
         ensures { result ≡ begun self now }
     {
         if self.may_begin(now) {
-            let until = time::saturating_add(now, self.exchange);
-            let end = time::min(until, self.deadline);
+            let end = time::saturating_add(now, self.exchange).min(self.deadline);
             self.rounds += 1;
             self.running = Some((now, end));
         }
@@ -97,8 +96,7 @@ impl UpgradeBudget {
     pub fn punch_window_end(self, start: u64) -> u64
         ensures { result ≡ window_end self start }
     {
-        let end = time::saturating_add(start, self.punch);
-        time::min(end, self.deadline)
+        time::saturating_add(start, self.punch).min(self.deadline)
     }
 
     // The limit that ran out by now. An exchange that the deadline cut short never had its own limit, so the upgrade's is named.
@@ -121,10 +119,7 @@ impl UpgradeBudget {
     fn upgrade_due(self, now: u64) -> Option<UpgradeStop>
         ensures { result ≡ upgrade_due self now }
     {
-        if now < self.deadline {
-            return None;
-        }
-        Some(UpgradeStop::UpgradeTimeout {
+        (self.deadline <= now).then_some(UpgradeStop::UpgradeTimeout {
             budget_ms: time::saturating_sub(self.deadline, self.armed),
         })
     }
@@ -135,7 +130,7 @@ impl UpgradeBudget {
         ensures { result ≡ next_deadline self }
     {
         match self.running {
-            Some((_, end)) => time::min(end, self.deadline),
+            Some((_, end)) => end.min(self.deadline),
             None => self.deadline,
         }
     }

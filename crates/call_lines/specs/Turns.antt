@@ -6,7 +6,7 @@ use Rattle.text.specs.Words.{ascii}
 use Rattle.lines.specs.Lines.{longest}
 use Rattle.library_calls.specs.declared.Kept.{Kept}
 use Rattle.library_calls.specs.Lines as library
-use Rattle.call_table.specs.Tables.{call_of}
+use Rattle.call_table.specs.Tables.{among}
 use Rattle.ledger_calls.specs.Calls.{ledger_table, ledger_turn, ledger_text}
 
 -- what is kept after a line, the ledger's words, and the text
@@ -21,7 +21,7 @@ turn kept words text = record { kept = kept; words = words; text = text }
 unfoldable pub turn_of : Kept → List ℕ → List ℕ → Turn
 turn_of kept words line =
     pick (library.turn_of kept line).found (turn (library.turn_of kept line).kept words (library.turn_of kept line).text)
-    (pick (call_of ledger_table line).found (turn kept (ledger_turn words line).words (ledger_text words line)) (turn kept words (ascii "bad\n")))
+    (pick (among ledger_table line) (turn kept (ledger_turn words line).words (ledger_text words line)) (turn kept words (ascii "bad\n")))
 
 -- whether a line feed ended a line that is not too long with it; another is bad
 abbrev pub is_whole : ℕ → Bool → Bool

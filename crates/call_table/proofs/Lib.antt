@@ -1,2 +1,2 @@
-pub mod Parts
+pub mod Cutting
 pub mod Calling

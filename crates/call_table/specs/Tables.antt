@@ -1,43 +1,39 @@
 -- A table of calls is text (README.md, "Changing something"): a row for each call, with line feeds, 10, between. A row is the call's form,
 -- and behind it the form of each of its answers, with bars, 124, between.
-use Rattle.std.specs.Prelude.{ℕ, zero, suc, ◌+◌, Bool, true, false, List, [], ◌++◌, leb, length, drop, replicate}
+use Rattle.std.specs.Prelude.{ℕ, suc, Bool, List, [], ◌∷◌, ◌++◌, eqb, leb, length, get_or, replicate, None, Option, Some}
+use Rattle.std.specs.Option.{is_some}
 use Rattle.prelude.specs.Choice.{pick}
-use Rattle.text.specs.Words.{ascii, length_before}
+use Rattle.text.specs.Words.{ascii}
 use Rattle.text.specs.Hexadecimal.{bytes_of}
 use Rattle.text.specs.Printed.{printed}
 use Rattle.lines.specs.Lines.{longest}
 use Rattle.forms.specs.Forms.{Reading, Good, Bad, read_form}
 use Rattle.forms.specs.Texts.{text, values_in, part}
-use Rattle.call_table.specs.declared.Part.{Part}
-use Rattle.call_table.specs.declared.Tried.{Tried}
 use Rattle.call_table.specs.declared.Call.{Call}
-use Rattle.call_table.specs.declared.Bytes.{Bytes}
 use Rattle.call_table.specs.declared.Said.{Said}
 
 -- ---- the parts of a text
 
--- where the part that begins at a place ends: at its separator, or at the text's end
-abbrev pub end_from : ℕ → List ℕ → ℕ → ℕ
-end_from separator s at = at + length_before separator (drop at s)
+-- parts of which the first has a byte more in front
+abbrev pub on_first : ℕ → List (List ℕ) → List (List ℕ)
+on_first b [] = (b ∷ []) ∷ []
+on_first b (part ∷ parts) = (b ∷ part) ∷ parts
 
--- the part so many behind the one that begins at a place; an empty one at the text's end where there are fewer
-unfoldable pub part_from : ℕ → List ℕ → ℕ → ℕ → Part
-part_from separator s at zero = record { start = at; end = end_from separator s at }
-part_from separator s at (suc k) =
-    pick (leb (length s) (end_from separator s at)) (record { start = length s; end = length s }) (part_from separator s (end_from separator s at + 1) k)
+-- the parts between separators; none stands behind a last one
+unfoldable pub parts : ℕ → List ℕ → List (List ℕ)
+parts separator [] = []
+parts separator (b ∷ s) = pick (eqb b separator) ([] ∷ parts separator s) (on_first b (parts separator s))
 
-abbrev pub part_text : List ℕ → Part → List ℕ
-part_text s p = part s p.start p.end
-
-abbrev pub row_at : List ℕ → ℕ → Part
-row_at table k = part_from 10 table 0 k
+-- an empty one where there are fewer
+abbrev pub part_at : ℕ → List ℕ → ℕ → List ℕ
+part_at separator s k = get_or (parts separator s) k []
 
 abbrev pub row_text : List ℕ → ℕ → List ℕ
-row_text table k = part_text table (row_at table k)
+row_text table k = part_at 10 table k
 
 -- a row's fields: its call's form is the field 0, its answers' follow
 abbrev pub field_of : List ℕ → ℕ → List ℕ
-field_of row j = part_text row (part_from 124 row 0 j)
+field_of row j = part_at 124 row j
 
 -- ---- the call of a line
 
@@ -45,28 +41,24 @@ abbrev pub no_words : List ℕ
 no_words = replicate 8 0
 
 -- a line's words, the first eight, and zeros behind them
-abbrev pub tried_by : Reading (List ℕ) → Tried
-tried_by (Good ws) = record { good = true; words = printed no_words 0 ws }
-tried_by Bad = record { good = false; words = no_words }
+abbrev pub tried_by : Reading (List ℕ) → Option (List ℕ)
+tried_by (Good ws) = Some (printed no_words 0 ws)
+tried_by Bad = None
 
-unfoldable pub words_by : List ℕ → List ℕ → Tried
+unfoldable pub words_by : List ℕ → List ℕ → Option (List ℕ)
 words_by row line = tried_by (read_form (field_of row 0) line)
 
-abbrev pub no_call : Call
-no_call = record { found = false; row = 0; words = no_words }
+abbrev pub call_by : ℕ → Option (List ℕ) → Option Call → Option Call
+call_by k (Some words) rest = Some (record { row = k; words = words })
+call_by k None rest = rest
 
-abbrev pub call_by : ℕ → Tried → Call → Call
-call_by k t rest = pick t.good (record { found = true; row = k; words = t.words }) rest
+-- the first of the rows from a place on whose form the line has
+unfoldable pub call_from : List ℕ → ℕ → List (List ℕ) → Option Call
+call_from line k [] = None
+call_from line k (row ∷ rows) = call_by k (words_by row line) (call_from line (suc k) rows)
 
--- the first row from a place on whose form the line has, among so many
-unfoldable pub call_from : List ℕ → List ℕ → ℕ → ℕ → Call
-call_from table line k zero = no_call
-call_from table line k (suc n) =
-    pick (leb (length table) (row_at table k).start) no_call (call_by k (words_by (row_text table k) line) (call_from table line (suc k) n))
-
--- a table has no more rows than bytes
-unfoldable pub call_of : List ℕ → List ℕ → Call
-call_of table line = call_from table line 0 (length table)
+unfoldable pub call_of : List ℕ → List ℕ → Option Call
+call_of table line = call_from line 0 (parts 10 table)
 
 -- ---- a call's bytes: those that the line's digits from a place up to another stand for, where they are no more than a line's
 
@@ -76,13 +68,10 @@ blank = replicate longest 0
 unfoldable pub bytes_in : List ℕ → ℕ → ℕ → List ℕ
 bytes_in line start end = pick (leb (length (part line start end)) longest) (bytes_of (part line start end)) []
 
-unfoldable pub decoded : List ℕ → ℕ → ℕ → Bytes
-decoded line start end = record { bytes = printed blank 0 (bytes_in line start end); len = length (bytes_in line start end) }
-
 -- ---- an answer: which of the row's, its words, and the bytes that it shows
 
-unfoldable pub no_bytes_lem : List ℕ
-no_bytes_lem = replicate 8192 0
+unfoldable pub no_bytes : List ℕ
+no_bytes = replicate 8192 0
 
 -- its line, by a row's fields
 unfoldable pub said_by : List ℕ → Said → List ℕ
@@ -90,10 +79,6 @@ said_by row said = text (field_of row said.answer) (values_in said.bytes (field_
 
 abbrev pub said_text : List ℕ → ℕ → Said → List ℕ
 said_text table row said = said_by (row_text table row) said
-
--- what is printed of a line: its answer, and nothing where it has none of the table's forms
-unfoldable pub answer_text : List ℕ → Bool → ℕ → Said → List ℕ
-answer_text table found row said = pick found (said_text table row said) []
 
 -- with bytes and without, and with no words
 abbrev pub none : List ℕ
@@ -103,4 +88,25 @@ abbrev pub shows : ℕ → List ℕ → List ℕ → Said
 shows answer words bytes = record { answer = answer; words = words; bytes = bytes }
 
 abbrev pub says : ℕ → List ℕ → Said
-says answer words = shows answer words no_bytes_lem
+says answer words = shows answer words no_bytes
+
+abbrev pub yes_said : Bool → Said
+yes_said holds = pick holds (says 1 none) (says 2 none)
+
+-- ---- a line by a table
+
+-- whether it has one of the forms
+abbrev pub among : List ℕ → List ℕ → Bool
+among table line = is_some (call_of table line)
+
+abbrev pub made : {A : Type 0} → A → (Call → A) → Option Call → A
+made other make None = other
+made other make (Some call) = make call
+
+-- what its call makes; the other where it is none
+unfoldable pub turn_by : {A : Type 0} → List ℕ → A → (Call → A) → List ℕ → A
+turn_by table other turn line = made other turn (call_of table line)
+
+-- what is printed of it: what is said of its call, and nothing where it is none
+abbrev pub text_by : List ℕ → (Call → Said) → List ℕ → List ℕ
+text_by table said line = turn_by table [] (λ call. said_text table call.row (said call)) line

@@ -2,108 +2,96 @@
 // line. What a call does stands elsewhere, as a function from words and bytes to words and bytes.
 #![tactic(auto)]
 
-ghost use Rattle.std.specs.Prelude.{◌≡◌, ◌≤◌, length};
-ghost use Rattle.text.specs.Printed.{printed, behind};
-ghost use Rattle.forms.specs.Texts.{part};
-ghost use Rattle.call_table.specs.Tables.{part_from, words_by, no_call, call_of, blank, decoded, no_bytes_lem, says, shows, said_by, said_text, answer_text};
+ghost use Rattle.std.specs.Prelude.{◌≡◌, ◌≤◌, List, ℕ, length, take};
+ghost use Rattle.std.specs.Iterator.{YieldsFirstRef, item_count};
+ghost use Rattle.text.specs.Printed.{printed, page, with_text};
+ghost use Rattle.lines.specs.Lines.{longest};
+ghost use Rattle.call_table.specs.Tables.{parts, part_at, words_by, call_of, blank, bytes_in, no_bytes, says, shows, yes_said, said_text};
+
+use std::marker::Model;
+use text::Printer;
 
 // ---- the parts of a text
 
-// Where a part stands.
-#[derive(Clone, Copy)]
-pub struct Part {
-    pub start: usize,
-    pub end: usize,
+// The parts of a text, in order; a last separator has none behind it.
+#[derive(Drop)]
+struct Parts<'a> {
+    rest: &'a [u8],
+    separator: u8,
 }
 
-fn part_of(s: &[u8], separator: u8, k: usize) -> Part
-    ensures place { result ≡ part_from separator s.now 0 k }
-    ensures within { (result.start ≤ result.end) × (result.end ≤ length s.now) }
-{
-    let mut at: usize = 0;
-    for _ in 0..k {
-        let end = at + text::length_before(&s[at..], separator);
-        if s.len() <= end {
-            return Part {
-                start: s.len(),
-                end: s.len(),
-            };
+impl<'a> Model for Parts<'a> {
+    ghost Value = { List (List ℕ) };
+
+    ghost view = { λ s. parts s.separator s.rest.now };
+}
+
+impl<'a> Iterator for Parts<'a> {
+    type Item = &'a [u8];
+
+    ghost next_gives = { YieldsFirstRef (λ left. left) };
+
+    ghost remaining = { item_count (λ left. left) };
+
+    fn next(&mut self) -> Option<&'a [u8]> {
+        let rest = self.rest;
+        if rest.is_empty() {
+            return None;
         }
-        at = end + 1;
+        let end = text::length_before(rest, self.separator);
+        self.rest = &rest[(end + 1).min(rest.len())..];
+        Some(&rest[..end])
     }
-    Part {
-        start: at,
-        end: at + text::length_before(&s[at..], separator),
-    }
+}
+
+fn cut(s: &[u8], separator: u8) -> Parts<'_>
+    ensures { result ≡ parts separator s.now }
+{
+    Parts { rest: s, separator }
+}
+
+// An empty one where there are fewer.
+fn part_of(s: &[u8], separator: u8, k: usize) -> &[u8]
+    ensures { result.now ≡ part_at separator s.now k }
+{
+    cut(s, separator).nth(k).unwrap_or(&[])
 }
 
 // ---- the call of a line
 
-#[derive(Clone, Copy)]
-pub struct Tried {
-    pub good: bool,
-    pub words: [u64; 8],
-}
+// As many words as a call has at most.
+pub const WORDS: usize = 8;
 
-// A line by a row's form.
-fn try_row(row: &[u8], line: &[u8]) -> Tried
+pub type Words = [u64; WORDS];
+
+// A line's words by a row's form; none where it has another.
+fn try_row(row: &[u8], line: &[u8]) -> Option<Words>
     ensures { result ≡ words_by row.now line.now }
 {
-    let mut words = [0u64; 8];
-    let p = part_of(row, b'|', 0);
-    let start = p.start;
-    let end = p.end;
-    if forms::read_form(&row[start..end], line, &mut words) {
-        return Tried {
-            good: true,
-            words: words,
-        };
+    let mut words = [0u64; WORDS];
+    let form = part_of(row, b'|', 0);
+    if forms::read_form(form, line, &mut words) {
+        return Some(words);
     }
-    Tried {
-        good: false,
-        words: [0; 8],
-    }
+    None
 }
 
 // Which row's form a line has, and its words.
 #[derive(Clone, Copy)]
 pub struct Call {
-    pub found: bool,
     pub row: usize,
-    pub words: [u64; 8],
+    pub words: Words,
 }
 
-fn no_call() -> Call
-    ensures { result ≡ no_call }
-{
-    Call {
-        found: false,
-        row: 0,
-        words: [0; 8],
-    }
-}
-
-pub fn call_of(table: &[u8], line: &[u8]) -> Call
+pub fn call_of(table: &[u8], line: &[u8]) -> Option<Call>
     ensures { result ≡ call_of table.now line.now }
 {
-    for k in 0..table.len() {
-        let p = part_of(table, b'\n', k);
-        let start = p.start;
-        let end = p.end;
-        if table.len() <= start {
-            return no_call();
-        }
-        let t = try_row(&table[start..end], line);
-        if t.good {
-            let words = t.words;
-            return Call {
-                found: true,
-                row: k,
-                words: words,
-            };
+    for (row, fields) in cut(table, b'\n').enumerate() {
+        if let Some(words) = try_row(fields, line) {
+            return Some(Call { row, words });
         }
     }
-    no_call()
+    None
 }
 
 // ---- its bytes
@@ -111,130 +99,92 @@ pub fn call_of(table: &[u8], line: &[u8]) -> Call
 // Room for a line.
 pub type Line = [u8; lines::LONGEST];
 
-// They are the first `len`.
-#[derive(Clone, Copy)]
-pub struct Bytes {
-    pub bytes: Line,
-    pub len: usize,
-}
-
+#[tactic(auto, unfolding(crate::specs::Tables::blank))]
 pub fn blank() -> Line
     ensures { result ≡ blank }
 {
     [0; lines::LONGEST]
 }
 
-// Those that a line's digits stand for; none where they are more than a line's.
-pub fn bytes_in(line: &[u8], start: u64, end: u64) -> Bytes
-    ensures { result ≡ decoded line.now start end }
+// Those that a line's digits stand for, over the start of lent room, and how many they are; none where they are more than a line's.
+pub fn bytes_in(line: &[u8], start: u64, end: u64, room: &mut Line) -> usize
+    ensures bytes { room.new ≡ printed room.old 0 (bytes_in line.now start end) }
+    ensures count { result ≡ length (bytes_in line.now start end) }
+    ensures shown { take result room.new ≡ bytes_in line.now start end }
+    ensures within { result ≤ longest }
 {
-    let mut bytes = blank();
-    let s = start as usize;
-    let e = text::least(end as usize, line.len());
-    if e <= s {
-        return Bytes {
-            bytes: bytes,
-            len: 0,
-        };
+    let start = start as usize;
+    let end = (end as usize).min(line.len());
+    if end <= start || room.len() < end - start {
+        return 0;
     }
-    if lines::LONGEST < e - s {
-        return Bytes {
-            bytes: bytes,
-            len: 0,
-        };
-    }
-    let n = text::read_hexadecimal(&line[s..e], &mut bytes, 0);
-    Bytes {
-        bytes: bytes,
-        len: n,
-    }
+    text::read_hexadecimal(&line[start..end], room, 0)
 }
 
 // ---- an answer
 
 // The bytes that an answer may show.
-pub type Shown = [u8; 8192];
+pub const SHOWN: usize = 8192;
+
+pub type Shown = [u8; SHOWN];
+
+// As many words as an answer has at most.
+pub const SAID: usize = 6;
+
+pub type SaidWords = [u64; SAID];
+
+// Those of an answer that has none.
+pub const NONE: SaidWords = [0; SAID];
 
 // Which of its row's, its words, and the bytes that it shows.
 #[derive(Clone, Copy)]
 pub struct Said {
     pub answer: usize,
-    pub words: [u64; 6],
+    pub words: SaidWords,
     pub bytes: Shown,
 }
 
+#[tactic(auto, unfolding(crate::specs::Tables::no_bytes))]
 pub fn no_bytes() -> Shown
-    ensures { result ≡ no_bytes_lem }
+    ensures { result ≡ no_bytes }
 {
-    [0; 8192]
+    [0; SHOWN]
 }
 
-pub fn say(answer: usize, words: [u64; 6]) -> Said
+pub fn say(answer: usize, words: SaidWords) -> Said
     ensures { result ≡ says answer words }
 {
     Said {
-        answer: answer,
-        words: words,
+        answer,
+        words,
         bytes: no_bytes(),
     }
 }
 
-pub fn show(answer: usize, words: [u64; 6], bytes: Shown) -> Said
+pub fn show(answer: usize, words: SaidWords, bytes: Shown) -> Said
     ensures { result ≡ shows answer words bytes }
 {
     Said {
-        answer: answer,
-        words: words,
-        bytes: bytes,
+        answer,
+        words,
+        bytes,
     }
 }
 
-fn put_field(row: &[u8], said: Said, out: &mut [u8]) -> usize
-    ensures bytes { out.new ≡ printed out.old 0 (said_by row.now said) }
-    ensures place { result ≡ behind out.old 0 (said_by row.now said) }
+// That something holds is a row's first answer, and that it does not its second.
+pub fn yes_said(holds: bool) -> Said
+    ensures { result ≡ yes_said holds }
 {
-    let words = said.words;
-    let bytes = said.bytes;
-    let p = part_of(row, b'|', said.answer);
-    let start = p.start;
-    let end = p.end;
-    let n = forms::put_form(&row[start..end], &words, &bytes, out, 0);
-    text::put_text(b"\n", out, n)
+    say(if holds { 1 } else { 2 }, NONE)
 }
 
-// Its line: where it ends in the buffer.
-pub fn put_said(table: &[u8], row: usize, said: Said, out: &mut [u8]) -> usize
-    ensures bytes { out.new ≡ printed out.old 0 (said_text table.now row said) }
-    ensures place { result ≡ behind out.old 0 (said_text table.now row said) }
+// Prints its line, by the row of the call.
+#[tactic(auto, unfolding(crate::specs::Tables::said_by), using(text::proofs::Printing::with_texts))]
+pub fn put_said(table: &[u8], row: usize, said: Said, printer: &mut Printer<'_>)
+    ensures { page printer.new ≡ with_text (page printer.old) (said_text table.now row said) }
 {
-    let p = part_of(table, b'\n', row);
-    let start = p.start;
-    let end = p.end;
-    put_field(&table[start..end], said, out)
-}
-
-// Whether a line has one of a table's forms, and where its answer ends in the buffer.
-#[derive(Clone, Copy)]
-pub struct Answered {
-    pub found: bool,
-    pub end: usize,
-}
-
-// The same where a call was found; else nothing.
-pub fn put_answer(table: &[u8], found: bool, row: usize, said: Said, out: &mut [u8]) -> Answered
-    ensures found { result.found ≡ found }
-    ensures bytes { out.new ≡ printed out.old 0 (answer_text table.now found row said) }
-    ensures place { result.end ≡ behind out.old 0 (answer_text table.now found row said) }
-{
-    if found {
-        let end = put_said(table, row, said, out);
-        return Answered {
-            found: true,
-            end: end,
-        };
-    }
-    Answered {
-        found: false,
-        end: 0,
-    }
+    let fields = part_of(table, b'\n', row);
+    let form = part_of(fields, b'|', said.answer);
+    forms::put_form(form, &said.words, &said.bytes, printer);
+    printer.put_text(b"\n");
 }

@@ -1,5 +1,5 @@
 -- Step by step: each reads on where the one before it stopped. Assumes nothing.
-use mathlib.Core.Path.{◌≡◌, refl, ap, ◌∙◌}
+use mathlib.Core.Path.{◌≡◌, refl, sym, ap, ◌∙◌}
 use mathlib.Core.List.{List, [], ◌∷◌, ◌++◌, append_assoc}
 use mathlib.Core.Bool.{Bool, true, false}
 use Prim.Native.Nat.{ℕ, ◌≤◌, ◌<◌}
@@ -14,7 +14,8 @@ use Rattle.text.specs.Printed.{printed, behind}
 use Rattle.text.proofs.Printing.{fits, fits_place, full_place}
 use Rattle.lines.specs.Lines.{longest}
 use Rattle.line_program.specs.declared.Reading.{Reading}
-use Rattle.line_program.specs.Reads.{left, NextLine}
+use Rattle.line_program.specs.Reads.{left, NextLine, has_feed}
+use Rattle.line_program.proofs.Ends.{as_many}
 use Rattle.call_lines.specs.Turns.{turn, line_turn}
 use Rattle.calls.specs.Steps.{step_of}
 use Rattle.calls.specs.Runs.{Got, got_turn, bytes_of, taken, Ran}
@@ -32,7 +33,7 @@ too_long k ws line ended h = rw (le-ltb (length line) longest h, never ended)
 
 module _ (k : Kept) (ws line text : List ℕ) (r : Reading) (room : longest ≤ length line) (used : r.used ≡ behind line 0 text) where
   abbrev got : Got
-  got = record { text = text; ended = r.ended; failed = r.failed }
+  got = record { text = text; end = r.end }
 
   -- where the line fits its buffer
   fitting : length text ≤ length line → step_of r (printed line 0 text) k ws ≡ got_turn k ws got
@@ -51,9 +52,10 @@ module _ (k : Kept) (ws line text : List ℕ) (r : Reading) (room : longest ≤ 
   filling h =
       let u : ltb 0 r.used ≡ true = lt-ltb 0 r.used (omega (arith, used, full_place line text (omega arith))) in
       let v : ltb 0 (length text) ≡ true = lt-ltb 0 (length text) (omega arith) in
-      let a = too_long k ws (take r.used (printed line 0 text)) r.ended (omega (arith, filled h)) in
-      let b = too_long k ws text r.ended (omega arith) in
-      rw (u, v, a, b)
+      let a = too_long k ws (take r.used (printed line 0 text)) (has_feed r.end) (omega (arith, filled h)) in
+      let b = too_long k ws text (has_feed r.end) (omega arith) in
+      let w = as_many r.end r.used (length text) (u ∙ sym v) in
+      rw (w, a, b)
 
   pub as_read : step_of r (printed line 0 text) k ws ≡ got_turn k ws got
   as_read = go (leb (length text) (length line)) refl
@@ -78,14 +80,14 @@ begun kept words block = record { brought = []; steps = []; whole = refl; keeps 
 
 module _ {kept : Kept} {words had : List ℕ} {k : Kept} {ws : List ℕ} (b : Stood kept words had k ws)
     {line block after ws' : List ℕ} (s : Step) (room : longest ≤ length line) (n : NextLine line had block after s.reading)
-    (e : s.kept ≡ (step_of s.reading after k ws).kept) (f : ws' ≡ (step_of s.reading after k ws).words) where
-  one : step_of s.reading after k ws ≡ got_turn k ws (record { text = n.read.text; ended = s.reading.ended; failed = s.reading.failed })
+    {k' : Kept} (e : k' ≡ (step_of s.reading after k ws).kept) (f : ws' ≡ (step_of s.reading after k ws).words) where
+  one : step_of s.reading after k ws ≡ got_turn k ws (record { text = n.read.text; end = s.reading.end })
   one = rw n.read.bytes (as_read k ws line n.read.text s.reading room n.read.place)
 
-  pub stepped : Ran kept words block ws' s
+  pub stepped : Ran kept words block k' ws' s
   unfolding bytes_of taken
   stepped =
-      let g : Got = record { text = n.read.text; ended = s.reading.ended; failed = s.reading.failed } in
+      let g : Got = record { text = n.read.text; end = s.reading.end } in
       record {
         brought = b.brought ++ n.read.brought;
         steps = g ∷ b.steps;
@@ -94,5 +96,5 @@ module _ {kept : Kept} {words had : List ℕ} {k : Kept} {ws : List ℕ} (b : St
         leaves = f ∙ rw (one, b.keeps, b.leaves);
       }
 
-pub standing : {kept : Kept} {words block ws : List ℕ} {s : Step} → Ran kept words block ws s → Stood kept words (left block s.reading.from s.reading.until) s.kept ws
+pub standing : {kept : Kept} {words block : List ℕ} {k : Kept} {ws : List ℕ} {s : Step} → Ran kept words block k ws s → Stood kept words (left block s.reading.from s.reading.until) k ws
 standing r = record { brought = r.brought; steps = r.steps; whole = r.whole; keeps = r.keeps; leaves = r.leaves }

@@ -1,20 +1,14 @@
--- A step is what the definitions say. Assumes nothing.
-use mathlib.Core.Path.{◌≡◌}
+-- A buffer into which nothing is printed. Assumes nothing.
+use mathlib.Core.Path.{◌≡◌, refl}
 use mathlib.Core.List.{List, []}
-use mathlib.Core.Bool.{Bool, true, false}
 use Prim.Native.Nat.{ℕ}
-use lib.ListN.{take}
-use Rattle.line_program.specs.declared.Reading.{Reading}
-use Rattle.library_calls.specs.declared.Kept.{Kept}
-use Rattle.call_lines.specs.Turns.{turn, line_turn}
-use Rattle.line_program.specs.Waits.{is_line}
-use Rattle.calls.specs.Steps.{step_of}
+use native.Mathlib.Omega.{arith}
+use Rattle.text.specs.Printed.{printed, behind}
 
-module _ (k : Kept) (ws line : List ℕ) (s : Reading) {b : Bool} (e : b ≡ is_line s.failed s.ended s.used) where
-  pub step_line : b ≡ true → line_turn k ws (take s.used line) s.ended ≡ step_of s line k ws
-  unfolding step_of
-  step_line t = rw (← e, t)
+pub unprinted : (o : List ℕ) → printed o 0 [] ≡ o
+unfolding printed
+unprinted o = refl
 
-  pub step_none : b ≡ false → turn k ws [] ≡ step_of s line k ws
-  unfolding step_of
-  step_none t = rw (← e, t)
+pub at_start : (o : List ℕ) → behind o 0 [] ≡ 0
+unfolding behind
+at_start o = omega arith

@@ -11,22 +11,20 @@ ghost use Rattle.calls.specs.Runs.{Ran};
 
 use ledger::Ledger;
 use library_calls::Kept;
-use line_program::Reading;
+use line_program::{BUFFER, Reading};
 use std::io::{Stdin, Stdout};
+use text::Printer;
 
-// How many bytes one read may bring, and how many an answer may have.
-const BUFFER: usize = 65536;
-
-// Where the input stands behind a line, what is kept, how many bytes of the buffer were handed over to be written, and whether they were.
+// Where the input stands behind a line, how many bytes of the buffer were handed over to be written, and whether they were.
 #[derive(Clone, Copy)]
 pub struct Step {
     pub reading: Reading,
-    pub kept: Kept,
     pub handed: usize,
     pub written: bool,
 }
 
 // Reads the next line, answers it and writes its answer.
+#[tactic(auto, unfolding(crate::specs::Steps::step_of, text::specs::Printed::with_text), using(crate::proofs::Stepping::unprinted, crate::proofs::Stepping::at_start))]
 fn take_step(
     input: Stdin,
     output: Stdout,
@@ -36,36 +34,39 @@ fn take_step(
     out: &mut [u8],
     from: usize,
     until: usize,
-    kept: Kept,
+    kept: &mut Kept,
 ) -> Step
-    ensures kept { result.kept ≡ (step_of result.reading line.new kept ledger.old).kept }
-    ensures words { ledger.new ≡ (step_of result.reading line.new kept ledger.old).words }
-    ensures out { out.new ≡ printed out.old 0 (step_of result.reading line.new kept ledger.old).text }
-    ensures handed { result.handed ≡ behind out.old 0 (step_of result.reading line.new kept ledger.old).text }
+    ensures kept { kept.new ≡ (step_of result.reading line.new kept.old ledger.old).kept }
+    ensures words { ledger.new ≡ (step_of result.reading line.new kept.old ledger.old).words }
+    ensures out { out.new ≡ printed out.old 0 (step_of result.reading line.new kept.old ledger.old).text }
+    ensures handed { result.handed ≡ behind out.old 0 (step_of result.reading line.new kept.old ledger.old).text }
     ensures read { NextLine line.old (left block.old from until) block.new line.new result.reading }
 {
-    let s = line_program::next_line(input, block, line, from, until);
-    if line_program::is_line(s.failed, s.ended, s.used) {
-        let used = s.used;
-        let a = call_lines::answer_line(kept, ledger, &line[..used], s.ended, out);
-        let next = a.kept;
-        let written = line_program::print(output, out, a.end);
+    let reading = line_program::next_line(input, block, line, from, until);
+    if !reading.is_line() {
         return Step {
-            reading: s,
-            kept: next,
-            handed: a.end,
-            written: written,
+            reading,
+            handed: 0,
+            written: true,
         };
     }
+    let mut printer = Printer { out, at: 0 };
+    call_lines::answer_line(
+        kept,
+        ledger,
+        &line[..reading.used],
+        reading.has_feed(),
+        &mut printer,
+    );
+    let handed = printer.at;
     Step {
-        reading: s,
-        kept: kept,
-        handed: 0,
-        written: true,
+        reading,
+        handed,
+        written: line_program::print(output, out, handed),
     }
 }
 
-// Goes on to the input's end, or up to an answer that cannot be written. A proved loop has to end, so it counts its turns down from a number
+// Goes on to the input's end, or up to an answer that cannot be written. A proved loop has to end, so its turns are counted, up to a number
 // that no run uses up.
 fn run(
     input: Stdin,
@@ -74,15 +75,16 @@ fn run(
     line: &mut [u8],
     ledger: &mut Ledger,
     out: &mut [u8],
-    kept: Kept,
+    kept: &mut Kept,
 ) -> Step
     requires { longest ≤ length line.old }
-    ensures { Ran kept ledger.old block.new ledger.new result }
+    ensures { Ran kept.old ledger.old block.new kept.new ledger.new result }
 {
     let mut s = take_step(input, output, block, line, ledger, out, 0, 0, kept);
-    let mut turns = u64::MAX;
-    while 0 < turns && s.reading.more && s.written {
-        let next = s.kept;
+    for _turn in 0..u64::MAX {
+        if !s.reading.has_more() || !s.written {
+            break;
+        }
         s = take_step(
             input,
             output,
@@ -92,9 +94,8 @@ fn run(
             out,
             s.reading.from,
             s.reading.until,
-            next,
+            kept,
         );
-        turns -= 1;
     }
     s
 }
@@ -104,7 +105,7 @@ fn main(rt: HostRuntime) {
     let mut line = call_table::blank();
     let mut out = [0u8; BUFFER];
     let mut ledger = ledger::empty();
-    let kept = library_calls::nothing();
+    let mut kept = library_calls::nothing();
     run(
         rt.stdin(),
         rt.stdout(),
@@ -112,6 +113,6 @@ fn main(rt: HostRuntime) {
         &mut line,
         &mut ledger,
         &mut out,
-        kept,
+        &mut kept,
     );
 }

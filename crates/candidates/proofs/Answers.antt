@@ -22,7 +22,7 @@ use Rattle.candidates.specs.OnePass.{suits, wanted_from}
 use Rattle.candidates.specs.declared.Source.{Source}
 use Rattle.candidates.specs.declared.Source.TheVariants.{Peer, Own}
 use Rattle.candidates.specs.declared.Limits.{Limits}
-use Rattle.candidates.specs.declared.Chosen.{Chosen}
+use Rattle.candidates.specs.Selection.{Chosen}
 use Rattle.candidates.specs.declared.Counts.{Counts}
 
 pub bit_le : (b : Bool) → bit b ≤ 1

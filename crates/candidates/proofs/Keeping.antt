@@ -23,7 +23,7 @@ use Rattle.candidates.specs.OnePass.{suits, wanted_from, kept_from}
 use Rattle.candidates.specs.declared.Source.{Source}
 use Rattle.candidates.specs.declared.Limits.{Limits}
 use Rattle.candidates.specs.declared.Counts.{Counts}
-use Rattle.candidates.specs.declared.Chosen.{Chosen}
+use Rattle.candidates.specs.Selection.{Chosen}
 use Rattle.candidates.proofs.Listing.{all_snoc, all_map, listed_long}
 
 -- an address has at most `longest` bytes

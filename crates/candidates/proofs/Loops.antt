@@ -22,9 +22,6 @@ pub record Counting (all : List (List ℕ)) (ip : Ip) (n : Counts) (left : List 
   pub family_is : n.family + count (in_family ip) left ≡ count (in_family ip) all
   pub ip_is : n.ip + count (has_ip ip) left ≡ count (has_ip ip) all
 
-pub count_none : (all : List (List ℕ)) (ip : Ip) → Counting all ip (record { total = 0; family = 0; ip = 0 }) all
-count_none all ip = record { family_small = omega arith; ip_small = omega arith; total_is = zero-add _; family_is = zero-add _; ip_is = zero-add _ }
-
 module _ {all : List (List ℕ)} {ip : Ip} {n : Counts} where
   pub count_more : {left : List (List ℕ)} {a : List ℕ} {m : Counts} → Counting all ip n (a ∷ left) → m ≡ tallied ip n a → Counting all ip m left
   unfolding count

@@ -7,7 +7,7 @@ use Rattle.address.specs.declared.Ip.{Ip}
 use Rattle.candidates.specs.Entries.{of_address, in_family, has_ip, longer_than}
 use Rattle.candidates.specs.Selection.{usual, longest_of, most_bytes}
 use Rattle.candidates.specs.declared.Limits.{Limits}
-use Rattle.candidates.specs.declared.Chosen.{Chosen}
+use Rattle.candidates.specs.Selection.{Chosen}
 
 -- every entry passes the test
 abbrev pub AllPass : (List ℕ → Bool) → List (List ℕ) → Type 0

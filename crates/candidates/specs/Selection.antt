@@ -14,7 +14,8 @@ use Rattle.candidates.specs.Entries.{contains, of_address, is_address, in_family
 use Rattle.candidates.specs.declared.Limits.{Limits}
 use Rattle.candidates.specs.declared.Terms.{Terms}
 use Rattle.candidates.specs.declared.Counts.{Counts}
-use Rattle.candidates.specs.declared.Chosen.{Chosen}
+use Rattle.wire.specs.declared.Packed.{Packed}
+use Rattle.wire.specs.Packed as wire
 
 abbrev pub usual : Limits
 usual = record { total = 8; family = 4; ip = 2; port = 1024 }
@@ -88,9 +89,12 @@ capacity = most * entry_size longest
 abbrev pub most_bytes : Limits → ℕ
 most_bytes l = entry_size longest4 * l.family + entry_size longest6 * l.family
 
--- bytes, and zero bytes behind them
+-- a list of addresses in that room, zero bytes behind it
+abbrev pub Chosen : Type 0
+Chosen = Packed capacity
+
 abbrev pub packed : List ℕ → Chosen
-packed s = record { bytes = padded capacity 0 s; len = length s }
+packed s = wire.packed capacity s
 
 -- the answer for a list s of which xs are kept
 unfoldable pub answered : List ℕ → List (List ℕ) → Result Chosen Refusal

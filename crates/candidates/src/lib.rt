@@ -16,6 +16,7 @@ ghost use Rattle.candidates.specs.declared.Terms.{Terms};
 
 use address::Ip;
 use refusal::Refusal;
+use wire::Packed;
 
 // The usual limits: the most candidates that are kept, in all, of a family and of an IP; and the lowest port.
 pub const MAX_PUNCH_CANDIDATES: usize = 8;
@@ -33,11 +34,7 @@ const LENGTH_SIZE: usize = 2;
 pub const CAPACITY: usize = MAX_PUNCH_CANDIDATES * (LENGTH_SIZE + address::LONGEST_V6);
 
 // The addresses kept, as an address list from the first byte on.
-#[derive(Clone, Copy)]
-pub struct Chosen {
-    pub bytes: [u8; CAPACITY],
-    pub len: usize,
-}
+pub type Chosen = Packed<CAPACITY>;
 
 #[derive(Clone, Copy)]
 pub struct Limits {
@@ -55,7 +52,7 @@ pub struct Terms {
 }
 
 // How many addresses there are, how many of a family, and how many of an IP.
-#[derive(Clone, Copy)]
+#[derive(Clone, Copy, Default)]
 pub struct Counts {
     pub total: usize,
     pub family: usize,
@@ -99,11 +96,7 @@ fn tally(n: Counts, ip: Ip, a: &[u8]) -> Counts
 fn tally_all(list: &[u8], ip: Ip) -> Counts
     ensures { result ≡ counted ip (entries list.now) }
 {
-    let mut n = Counts {
-        total: 0,
-        family: 0,
-        ip: 0,
-    };
+    let mut n = Counts::default();
     for a in wire::entries(list) {
         n = tally(n, ip, a);
     }
@@ -178,17 +171,6 @@ fn wanted(l: Limits, source: Source, kept: &[u8], a: &[u8]) -> bool
         None => false,
         Some((ip, port)) => {
             suits_source(source, kept, a, ip) && l.room_for(tally_all(kept, ip), port)
-        }
-    }
-}
-
-impl Chosen {
-    pub fn empty() -> Self
-        ensures { result ≡ packed [] }
-    {
-        Chosen {
-            bytes: [0u8; CAPACITY],
-            len: 0,
         }
     }
 }

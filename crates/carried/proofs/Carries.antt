@@ -11,7 +11,7 @@ use Rattle.rows.specs.Words.{ledger_words}
 use Rattle.prelude.specs.Choice.{pick}
 use Rattle.ids.specs.declared.PeerId.{PeerId}
 use Rattle.candidates.specs.declared.Terms.{Terms}
-use Rattle.frames.specs.declared.Framed.{Framed}
+use Rattle.frames.specs.Sent.{Framed}
 use Rattle.ledger.specs.Ledger.{tables_of, laid, end_punches, expect_punches}
 use Rattle.ledger.proofs.Laws.{laid_same}
 use Rattle.wire.proofs.Stores.{sets_front}
@@ -20,11 +20,6 @@ use Rattle.circuit.specs.declared.decision.Decision.{Decision}
 use Rattle.frames.specs.Sent.{own_connect}
 use Rattle.circuit.specs.declared.decision.Fate.TheVariants.{Kept, Removed, Opened}
 use Rattle.carried.specs.Carried.{sent_after, ledger_after, opens, connect_after, with_connect, with_core, framed_by}
-
--- bytes that are as long as the buffer stand in all of it
-pub sets_whole : (o new : List ℕ) → length new ≡ length o → sets o 0 new ≡ new
-sets_whole o new h =
-    sets_front o new (omega arith) ∙ ap (λ (t : List ℕ). new ++ t) (drop_of_length-le o {i = length new} (omega arith)) ∙ append-nil new
 
 -- only the core's number of CONNECT bytes changes
 module _ (t : Terms) (own : List ℕ) (d : Decision) where

@@ -2,10 +2,10 @@
 use Rattle.std.specs.Prelude.{ℕ, Bool, true, false, List, [], None, Option, Some}
 use Rattle.prelude.specs.Choice.{pick}
 use Rattle.ids.specs.declared.PeerId.{PeerId}
-use Rattle.candidates.specs.declared.Chosen.{Chosen}
+use Rattle.candidates.specs.Selection.{Chosen}
 use Rattle.candidates.specs.Selection as chosen
 use Rattle.candidates.specs.declared.Terms.{Terms}
-use Rattle.frames.specs.declared.Framed.{Framed}
+use Rattle.frames.specs.Sent.{Framed}
 use Rattle.frames.specs.Sent.{packed, sync_frame, own_connect}
 use Rattle.ledger.specs.Ledger.{PathLedger, end_punches, expect_punches}
 use Rattle.vocabulary.specs.declared.Effect.{Effect}

@@ -13,13 +13,7 @@ use refusal::Refusal;
 fn offer_in_use(phase: Phase, offer: Option<(ConnectionId, StreamId)>) -> bool
     ensures { result ≡ in_use phase offer }
 {
-    match phase {
-        Phase::Exchange { conn, stream, .. } => match offer {
-            Some((at, on)) => conn == at && stream == on,
-            None => false,
-        },
-        _ => false,
-    }
+    matches!(phase, Phase::Exchange { conn, stream, .. } if offer == Some((conn, stream)))
 }
 
 // A broken own list comes before a stream in use.

@@ -63,17 +63,19 @@ impl Core {
     ) -> Decision
         ensures { result ≡ started_of source relay circuit settings at }
     {
-        if time::LAST - at < settings.handshake {
-            let done = Phase::Done { promoted: false };
-            return Decision::refused(
-                begun(source, relay, circuit, settings, done),
-                Refusal::HandshakeTooLate,
-            );
+        match at.checked_add(settings.handshake) {
+            Some(deadline) => {
+                let phase = Phase::Handshaking { deadline };
+                Decision::quiet(begun(source, relay, circuit, settings, phase))
+            }
+            None => {
+                let done = Phase::Done { promoted: false };
+                Decision::refused(
+                    begun(source, relay, circuit, settings, done),
+                    Refusal::HandshakeTooLate,
+                )
+            }
         }
-        let phase = Phase::Handshaking {
-            deadline: at + settings.handshake,
-        };
-        Decision::quiet(begun(source, relay, circuit, settings, phase))
     }
 
     #[tactic(auto, unfolding(crate::specs::Calls::wrote_of))]

@@ -101,7 +101,7 @@ impl Said {
         Said {
             first: self.first,
             second: Some(Effect::Send { conn, stream }),
-            third: if over { Some(reset) } else { None },
+            third: over.then_some(reset),
             message,
         }
     }

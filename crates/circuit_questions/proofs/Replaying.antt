@@ -10,7 +10,7 @@ use Rattle.std.specs.Prelude.{Option}
 use Rattle.text.specs.Printed.{printed, behind}
 use Rattle.text.proofs.Printing.{laid_none}
 use Rattle.line_program.specs.declared.Reading.{Reading}
-use Rattle.line_program.specs.Reads.{left, NextLine}
+use Rattle.line_program.specs.Reads.{left, NextLine, has_feed, has_failed}
 use Rattle.line_program.proofs.GoingOn.{apart}
 use Rattle.lines.specs.Lines.{longest}
 use Rattle.journal_calls.specs.Calls.{Journal, state_of}
@@ -30,10 +30,10 @@ module _ (reply out : List ℕ) (lent : Numbers → Journal) (blank : (f : Optio
 
   -- what the buffer says of the first line
   abbrev said : (Option Settings)
-  said = first_of (take r.used line') r.ended
+  said = first_of (take r.used line') (has_feed r.end)
 
   -- reading failed in the first line
-  pub unread_first : r.failed ≡ true → Replayed reply out block lent reply out (record { reading = r; handed = 0; written = true })
+  pub unread_first : has_failed r.end ≡ true → Replayed reply out block lent reply out (record { reading = r; handed = 0; written = true })
   unfolding bytes_of cut replayed
   unread_first f =
       record {
@@ -50,9 +50,9 @@ module _ (reply out : List ℕ) (lent : Numbers → Journal) (blank : (f : Optio
       }
 
   -- a first line that is not good
-  module _ (f : r.failed ≡ false) (g : is_good said ≡ false) (v : Bool) {out' : List ℕ} {q : ℕ}
+  module _ (f : has_failed r.end ≡ false) (g : is_good said ≡ false) (v : Bool) {out' : List ℕ} {q : ℕ}
       (p : out' ≡ printed out 0 (opening_text said)) (b : q ≡ behind out 0 (opening_text said)) where
-    made : (ls : List Line) (u : List ℕ) → behind_first ls ≡ [] → said ≡ first_in ls → unread r.failed ls ≡ false
+    made : (ls : List Line) (u : List ℕ) → behind_first ls ≡ [] → said ≡ first_in ls → unread (has_failed r.end) ls ≡ false
         → x.read.brought ≡ bytes_of ls ++ (u ++ rest) → lines_of (bytes_of ls) ≡ ls
         → Replayed reply out block lent reply out' (record { reading = r; handed = q; written = v })
     unfolding replayed
@@ -72,26 +72,26 @@ module _ (reply out : List ℕ) (lent : Numbers → Journal) (blank : (f : Optio
         }
 
     -- it is there
-    only : lines_of (bytes_of ((x.read.text, r.ended) ∷ [])) ≡ (x.read.text, r.ended) ∷ []
+    only : lines_of (bytes_of ((x.read.text, has_feed r.end) ∷ [])) ≡ (x.read.text, has_feed r.end) ∷ []
         → Replayed reply out block lent reply out' (record { reading = r; handed = q; written = v })
     unfolding bytes_of
-    only = made ((x.read.text, r.ended) ∷ []) [] refl (same_first x hl) refl (more_whole [] x [] [] refl)
+    only = made ((x.read.text, has_feed r.end) ∷ []) [] refl (same_first x hl) refl (more_whole [] x [] [] refl)
 
     -- there is none
-    missing : r.ended ≡ false → Replayed reply out block lent reply out' (record { reading = r; handed = q; written = v })
+    missing : has_feed r.end ≡ false → Replayed reply out block lent reply out' (record { reading = r; handed = q; written = v })
     unfolding bytes_of cut
     missing e =
         made [] x.read.text refl (unended (take r.used line') e) f (left_whole [] x [] [] refl e) refl
 
-    unended_first : r.ended ≡ false → (t : Bool) → ltb 0 r.used ≡ t
+    unended_first : has_feed r.end ≡ false → (t : Bool) → ltb 0 r.used ≡ t
         → Replayed reply out block lent reply out' (record { reading = r; handed = q; written = v })
     unended_first e true u = only (last_cut [] x none_ended e (some x hl u))
     unended_first e false u = missing e
 
     pub refused_first : Replayed reply out block lent reply out' (record { reading = r; handed = q; written = v })
-    refused_first = go r.ended refl
+    refused_first = go (has_feed r.end) refl
       where
-        go : (t : Bool) → r.ended ≡ t → Replayed reply out block lent reply out' (record { reading = r; handed = q; written = v })
+        go : (t : Bool) → has_feed r.end ≡ t → Replayed reply out block lent reply out' (record { reading = r; handed = q; written = v })
         go true e = only (all_cut (more_ended [] x none_ended e))
         go false e = unended_first e (ltb 0 r.used) refl
 
@@ -99,20 +99,20 @@ module _ (reply out : List ℕ) (lent : Numbers → Journal) (blank : (f : Optio
   module _ (g : is_good said ≡ true) {j : Journal} {out₁ : List ℕ} (jo : j ≡ opened said) (p : out₁ ≡ printed out 0 (opening_text said))
       {block' : List ℕ} {lent' : Numbers → Journal} {reply' out' : List ℕ} {e : Ending}
       (ran : Ran (state j reply out₁ 0) rest block' lent' reply' out' e) where
-    good : is_good (first_of x.read.text r.ended) ≡ true
+    good : is_good (first_of x.read.text (has_feed r.end)) ≡ true
     good = ap is_good (sym (same_first x hl)) ∙ g
 
-    start : state j reply out₁ 0 ≡ state (opened (first_of x.read.text r.ended)) reply out 0
+    start : state j reply out₁ 0 ≡ state (opened (first_of x.read.text (has_feed r.end))) reply out 0
     start =
         ap (λ (z : Journal). state z reply out₁ 0) (jo ∙ ap opened (same_first x hl))
-        ∙ ap (λ (z : List ℕ). state (opened (first_of x.read.text r.ended)) reply z 0) (p ∙ ap (printed out 0) (silent said g) ∙ sym (laid_none out 0).bytes)
+        ∙ ap (λ (z : List ℕ). state (opened (first_of x.read.text (has_feed r.end))) reply z 0) (p ∙ ap (printed out 0) (silent said g) ∙ sym (laid_none out 0).bytes)
 
     pub good_first : Replayed reply out block' lent' reply' out' e
     unfolding replayed
     good_first =
         record {
           brought = x.read.brought ++ ran.brought;
-          lines = (x.read.text, r.ended) ∷ ran.lines;
+          lines = (x.read.text, has_feed r.end) ∷ ran.lines;
           unfinished = ran.unfinished;
           whole = first_whole x ran.lines ran.brought (ran.unfinished ++ left block' e.reading.from e.reading.until) ran.whole;
           cut = first_cut x ran.lines good ran.cut;

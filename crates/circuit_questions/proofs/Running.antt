@@ -9,14 +9,15 @@ use lib.ListN.{length, length-append}
 use Rattle.prelude.specs.Numbers.{max_u64}
 use Rattle.text.specs.Printed.{printed, behind}
 use Rattle.line_program.specs.declared.Reading.{Reading}
-use Rattle.line_program.specs.Reads.{left, feed, NextLine}
+use Rattle.line_program.specs.Reads.{left, feed, NextLine, has_feed, has_more, has_failed}
 use Rattle.line_program.specs.Waits.{is_line}
 use Rattle.line_program.proofs.GoingOn.{apart}
+use Rattle.line_program.proofs.Ends.{with_feed, without_feed, with_failure}
 use Rattle.lines.specs.Lines.{longest}
 use Rattle.journal_calls.specs.Calls.{Journal, Taken}
 use Rattle.journal_calls.specs.declared.State.{State as Numbers}
 use Rattle.journal_text.specs.Journals.{lines_of, bytes_of, endless}
-use Rattle.journal_text.proofs.Inputs.{Line, same_line, some, at_end, there, Ended, none_ended, all_cut, more_long, more_whole, left_whole, more_ended, last_cut, last_dry}
+use Rattle.journal_text.proofs.Inputs.{Line, same_line, some, at_end, Ended, none_ended, all_cut, more_long, more_whole, left_whole, more_ended, last_cut, last_dry}
 use Rattle.circuit_questions.specs.declared.Step.{Step}
 use Rattle.circuit_questions.specs.Answers.{turn_text, line_text}
 use Rattle.circuit_questions.specs.Steps.{State, state, taking, taken, step_of}
@@ -53,11 +54,11 @@ pub record Closed (before : State) (had rest : List ℕ) (s : State) (v : Bool) 
   pub makes : s ≡ taken before lines
   pub cutting : lines_of (bytes_of lines) ≡ lines
   pub unwritten : lines ≡ [] → v ≡ true
-  pub dry : r.failed ≡ false → length (bytes_of lines) < endless → (r.more ≡ false) × (unfinished ++ rest ≡ [])
+  pub dry : has_failed r.end ≡ false → length (bytes_of lines) < endless → (has_more r.end ≡ false) × (unfinished ++ rest ≡ [])
 
 pub record Going (before : State) (had block : List ℕ) (s : State) (t : Step) (turns : ℕ) : Type 0 where
-  pub goes : t.reading.ended ≡ true → Open before had (left block t.reading.from t.reading.until) s t.written turns
-  pub stops : t.reading.ended ≡ false → Closed before had (left block t.reading.from t.reading.until) s t.written t.reading
+  pub goes : has_feed t.reading.end ≡ true → Open before had (left block t.reading.from t.reading.until) s t.written turns
+  pub stops : has_feed t.reading.end ≡ false → Closed before had (left block t.reading.from t.reading.until) s t.written t.reading
 
 pub begin : (s : State) (had : List ℕ) (turns : ℕ) → max_u64 ≤ turns → Open s had had s true turns
 unfolding bytes_of taken
@@ -69,7 +70,7 @@ begin s had turns h =
 module _ {before : State} {had mid line : List ℕ} {s : State} {v : Bool} {turns : ℕ} (o : Open before had mid s v turns) (hl : longest ≤ length line)
     (t : Step) {block line' : List ℕ} {s' : State}
     (k : (s' ≡ step_of t.reading line' s)
-    × ((is_line t.reading.failed t.reading.ended t.reading.used ≡ false → t.written ≡ true) × NextLine line mid block line' t.reading)) where
+    × ((is_line t.reading.end t.reading.used ≡ false → t.written ≡ true) × NextLine line mid block line' t.reading)) where
   abbrev x : NextLine line mid block line' t.reading
   x = k.1.1
 
@@ -77,10 +78,10 @@ module _ {before : State} {had mid line : List ℕ} {s : State} {v : Bool} {turn
   rest = left block t.reading.from t.reading.until
 
   abbrev l : Line
-  l = (x.read.text, t.reading.ended)
+  l = (x.read.text, has_feed t.reading.end)
 
   -- where there is a line it is taken
-  module _ (e : is_line t.reading.failed t.reading.ended t.reading.used ≡ true) where
+  module _ (e : is_line t.reading.end t.reading.used ≡ true) where
     -- a state by what the line does
     abbrev by_turn : Taken → State
     by_turn d = state d.turn.journal d.reply (printed s.out 0 (turn_text d.turn)) (behind s.out 0 (turn_text d.turn))
@@ -93,24 +94,24 @@ module _ {before : State} {had mid line : List ℕ} {s : State} {v : Bool} {turn
     took = k.0 ∙ stepped ∙ ap (λ (z : State). taking z l) o.makes ∙ sym (taken_more before o.lines l)
 
   -- a line feed ended the line
-  module _ (e : t.reading.ended ≡ true) where
+  module _ (e : has_feed t.reading.end ≡ true) where
     gone : (turns' : ℕ) → turns ≤ turns' + 1 → Open before had rest s' t.written turns'
     gone turns' h =
         record {
           brought = o.brought ++ x.read.brought;
           lines = o.lines ++ (l ∷ []);
           whole = more_whole o.lines x had o.brought o.whole;
-          makes = took (there x e);
+          makes = took (with_feed _ _ e);
           ended = more_ended o.lines x o.ended e;
           unwritten = never_none o.lines l;
           counted =
-              let f : length (feed t.reading.ended) ≡ 1 = ap (λ (d : Bool). length (feed d)) e in
+              let f : length (feed (has_feed t.reading.end)) ≡ 1 = ap (λ (d : Bool). length (feed d)) e in
               omega (arith, o.counted, more_long o.lines x);
         }
 
   -- none did
-  module _ (e : t.reading.ended ≡ false) where
-    left_over : is_line t.reading.failed t.reading.ended t.reading.used ≡ false → Closed before had rest s' t.written t.reading
+  module _ (e : has_feed t.reading.end ≡ false) where
+    left_over : is_line t.reading.end t.reading.used ≡ false → Closed before had rest s' t.written t.reading
     unfolding step_of
     left_over n =
         record {
@@ -121,10 +122,10 @@ module _ {before : State} {had mid line : List ℕ} {s : State} {v : Bool} {turn
           makes = k.0 ∙ rw n o.makes;
           cutting = all_cut o.ended;
           unwritten = λ _. k.1.0 n;
-          dry = λ f _. at_end x hl e (rw (f, e) at n);
+          dry = λ f _. at_end x hl e (sym (without_feed _ _ f e) ∙ n);
         }
 
-    last : is_line t.reading.failed t.reading.ended t.reading.used ≡ true → Closed before had rest s' t.written t.reading
+    last : is_line t.reading.end t.reading.used ≡ true → Closed before had rest s' t.written t.reading
     last y =
         record {
           brought = o.brought ++ x.read.brought;
@@ -132,19 +133,19 @@ module _ {before : State} {had mid line : List ℕ} {s : State} {v : Bool} {turn
           unfinished = [];
           whole = more_whole o.lines x had o.brought o.whole;
           makes = took y;
-          cutting = last_cut o.lines x o.ended e (some x hl (used t.reading.failed refl));
+          cutting = last_cut o.lines x o.ended e (some x hl (used (has_failed t.reading.end) refl));
           unwritten = never_none o.lines l;
           dry = λ _. last_dry o.lines x e;
         }
       where
-        used : (b : Bool) → t.reading.failed ≡ b → ltb 0 t.reading.used ≡ true
-        used true f = apart (sym (rw f at y))
-        used false f = rw (f, e) at y
+        used : (b : Bool) → has_failed t.reading.end ≡ b → ltb 0 t.reading.used ≡ true
+        used true f = apart (sym y ∙ with_failure _ _ f)
+        used false f = sym (without_feed _ _ f e) ∙ y
 
   pub going : (turns' : ℕ) → turns ≤ turns' + 1 → Going before had block s' t turns'
-  going turns' h = record { goes = λ e. gone e turns' h; stops = λ e. go e (is_line t.reading.failed t.reading.ended t.reading.used) refl }
+  going turns' h = record { goes = λ e. gone e turns' h; stops = λ e. go e (is_line t.reading.end t.reading.used) refl }
     where
-      go : t.reading.ended ≡ false → (b : Bool) → is_line t.reading.failed t.reading.ended t.reading.used ≡ b
+      go : has_feed t.reading.end ≡ false → (b : Bool) → is_line t.reading.end t.reading.used ≡ b
           → Closed before had rest s' t.written t.reading
       go e true y = last e y
       go e false n = left_over e n
@@ -152,11 +153,11 @@ module _ {before : State} {had mid line : List ℕ} {s : State} {v : Bool} {turn
 -- ---- the run
 
 pub finished : {before : State} {had block reply out : List ℕ} {turns : ℕ} (lent : Numbers → Journal) (t : Step)
-    → Going before had block (state (lent t.state) reply out t.handed) t turns → (t.reading.ended ≡ true → t.written ≡ true → turns ≡ 0)
+    → Going before had block (state (lent t.state) reply out t.handed) t turns → (has_feed t.reading.end ≡ true → t.written ≡ true → turns ≡ 0)
     → Ran before had block lent reply out (record { reading = t.reading; handed = t.handed; written = t.written })
-finished {before} {had} {block} {reply} {out} {turns} lent t g z = go t.reading.ended refl
+finished {before} {had} {block} {reply} {out} {turns} lent t g z = go (has_feed t.reading.end) refl
   where
-    go : (b : Bool) → t.reading.ended ≡ b → Ran before had block lent reply out (record { reading = t.reading; handed = t.handed; written = t.written })
+    go : (b : Bool) → has_feed t.reading.end ≡ b → Ran before had block lent reply out (record { reading = t.reading; handed = t.handed; written = t.written })
     go true e =
         let o = g.goes e in
         record {

@@ -1,5 +1,5 @@
 -- What the circuit answers after a line (RULES.md, section 11.9), and what is printed of it (README.md).
-use Rattle.std.specs.Prelude.{ℕ, Bool, true, false, List, [], ◌∷◌, ◌++◌, None, Option, Some, is_some}
+use Rattle.std.specs.Prelude.{ℕ, Bool, false, List, [], ◌∷◌, ◌++◌, None, Option, Some, is_some}
 use Rattle.prelude.specs.Choice.{pick, bit}
 use Rattle.text.specs.Words.{ascii}
 use Rattle.forms.specs.Texts.{Value, number, some, absent, word, text}
@@ -8,7 +8,6 @@ use Rattle.questions.specs.Questions.{promotes_of, claim_of, next_deadline_at}
 use Rattle.journal_calls.specs.Calls.{Journal, Turned}
 use Rattle.journal_turns.specs.Turns.{line_turn}
 use Rattle.circuit_questions.specs.declared.Answers.{Answers}
-use Rattle.circuit_questions.specs.declared.Given.{Given}
 
 -- ---- the questions (section 11.9)
 
@@ -26,10 +25,6 @@ answers_of begun c =
 -- ---- what is printed
 
 -- a time or none
-abbrev pub deadline_words : Option ℕ → Given
-deadline_words (Some end) = record { given = 1; at = end }
-deadline_words None = record { given = 0; at = 0 }
-
 abbrev pub deadline_value : Option ℕ → Value
 deadline_value (Some end) = some end
 deadline_value None = absent

@@ -3,7 +3,7 @@
 use Rattle.std.specs.Prelude.{ℕ, ◌<◌, ◌≡◌, Bool, true, false, List, [], ◌++◌, eqb, length}
 use Rattle.prelude.specs.Choice.{pick, both}
 use Rattle.text.specs.Printed.{printed, behind}
-use Rattle.line_program.specs.Reads.{left}
+use Rattle.line_program.specs.Reads.{left, has_more, has_failed}
 use Rattle.journal_calls.specs.Calls.{Journal}
 use Rattle.journal_calls.specs.declared.State.{State as Numbers}
 use Rattle.journal_text.specs.Texts.{is_good, opened, opening_text}
@@ -26,8 +26,8 @@ pub record Ran (before : State) (had block : List ℕ) (lent : Numbers → Journ
   pub numbers : Numbers
   pub makes : state (lent numbers) reply out e.handed ≡ taken before lines
   -- it stopped where reading or writing failed, or else at the input's end, where no byte is left
-  pub stopped : e.written ≡ true → e.reading.failed ≡ false → length (bytes_of lines) < endless
-      → (e.reading.more ≡ false) × (unfinished ++ left block e.reading.from e.reading.until ≡ [])
+  pub stopped : e.written ≡ true → has_failed e.reading.end ≡ false → length (bytes_of lines) < endless
+      → (has_more e.reading.end ≡ false) × (unfinished ++ left block e.reading.from e.reading.until ≡ [])
   -- writing fails only where a line was answered
   pub unwritten : lines ≡ [] → e.written ≡ true
 
@@ -54,9 +54,9 @@ pub record Replayed (reply out block : List ℕ) (lent : Numbers → Journal) (r
   -- behind a first line that is not good none is taken (section 12.4)
   pub alone : is_good (first_in lines) ≡ false → behind_first lines ≡ []
   pub numbers : Numbers
-  pub makes : state (lent numbers) reply' out' e.handed ≡ replayed e.reading.failed reply out lines
+  pub makes : state (lent numbers) reply' out' e.handed ≡ replayed (has_failed e.reading.end) reply out lines
   -- it stopped where reading or writing failed, at a first line that is not good, or else at the input's end, where no byte is left
-  pub stopped : e.written ≡ true → e.reading.failed ≡ false → length (bytes_of lines) < endless → is_good (first_in lines) ≡ true
-      → (e.reading.more ≡ false) × (unfinished ++ left block e.reading.from e.reading.until ≡ [])
+  pub stopped : e.written ≡ true → has_failed e.reading.end ≡ false → length (bytes_of lines) < endless → is_good (first_in lines) ≡ true
+      → (has_more e.reading.end ≡ false) × (unfinished ++ left block e.reading.from e.reading.until ≡ [])
   -- writing fails only where something is printed
-  pub unwritten : quiet e.reading.failed lines ≡ true → e.written ≡ true
+  pub unwritten : quiet (has_failed e.reading.end) lines ≡ true → e.written ≡ true

@@ -2,6 +2,7 @@
 use Rattle.std.specs.Prelude.{ℕ, Bool, List, [], ◌∷◌, take}
 use Rattle.prelude.specs.Choice.{pick}
 use Rattle.text.specs.Printed.{printed, behind}
+use Rattle.line_program.specs.Reads.{has_feed}
 use Rattle.line_program.specs.declared.Reading.{Reading}
 use Rattle.line_program.specs.Waits.{is_line}
 use Rattle.journal_calls.specs.Calls.{Journal}
@@ -35,4 +36,4 @@ taken s (l ∷ rest) = taken (taking s l) rest
 
 -- one step: the line that was read, the first bytes of its buffer, is taken; where there is none nothing changes
 unfoldable pub step_of : Reading → List ℕ → State → State
-step_of r line s = pick (is_line r.failed r.ended r.used) (taking s (take r.used line, r.ended)) s
+step_of r line s = pick (is_line r.end r.used) (taking s (take r.used line, has_feed r.end)) s

@@ -11,10 +11,10 @@ use Rattle.ids.specs.declared.ConnectionId.{ConnectionId}
 use Rattle.dials.specs.declared.Column.{Column}
 use Rattle.kinds.specs.declared.Row.{Row}
 use Rattle.rows.specs.Words.{no_row}
-use Rattle.std.specs.Prelude.{Option, None}
+use Rattle.std.specs.Prelude.{Option, None, Some}
 use mathlib.Core.Logic.{◌⊎◌, inl, inr}
 use Rattle.dials.specs.declared.Fate.{Fate}
-use Rattle.dials.specs.declared.Fate.TheVariants.{Other, Stays, Goes, Closes}
+use Rattle.dials.specs.declared.Fate.TheVariants.{Stays, Goes}
 use Rattle.dials.specs.Dials.{retired_by, closed_by, each, pairs, column_of, pushed}
 use Rattle.dials.proofs.Fill.{pushed_column, all_held}
 use Rattle.dials.proofs.Each.{each_more, length_pairs}
@@ -49,14 +49,11 @@ module _ {C : Type 0} {z : C} {f : Row × Option ConnectionId → List C} {rs : 
     pub all_given : length rs ≤ i → length rs ≤ length firsts → column ≡ column_of z (each f (pairs rs firsts))
     all_given o h = g.holds ∙ ap (λ (ps : List (Row × Option ConnectionId)). column_of z (each f ps)) (take_all i (pairs rs firsts) (omega (arith, length_pairs rs firsts h)))
 
--- ---- what a dial's fate gives
-pub token_given : (t : Fate) (x : NatToken) → (t ≡ Stays x) ⊎ ((t ≡ Goes x) ⊎ (t ≡ Closes x)) → retired_by t ≡ x ∷ []
+-- ---- what a dial's fate gives: a token that is retired and no connection to close
+pub token_given : (t : Fate) (x : NatToken) → (t ≡ Stays x) ⊎ (t ≡ Goes x) → retired_by (Some t) ≡ x ∷ []
 token_given t x (inl e) = rw e refl
-token_given t x (inr (inl e)) = rw e refl
-token_given t x (inr (inr e)) = rw e refl
+token_given t x (inr e) = rw e refl
 
-pub none_closed : (row : Row) (t : Fate) → ((x : NatToken) → t ≡ Closes x → ⊥) → closed_by row t ≡ []
-none_closed row Other n = refl
-none_closed row (Stays x) n = refl
-none_closed row (Goes x) n = refl
-none_closed row (Closes x) n = absurd (n x refl)
+pub none_closed : (row : Row) (t : Fate) (x : NatToken) → (t ≡ Stays x) ⊎ (t ≡ Goes x) → closed_by row (Some t) ≡ []
+none_closed row t x (inl e) = rw e refl
+none_closed row t x (inr e) = rw e refl

@@ -2,4 +2,3 @@ pub mod Each
 pub mod Fill
 pub mod Gathered
 pub mod Staying
-pub mod Arrays

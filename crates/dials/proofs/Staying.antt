@@ -13,11 +13,11 @@ use Rattle.kinds.specs.declared.Row.{Row}
 use Rattle.rows.specs.Rows.{marked}
 use Rattle.rows.specs.Words.{no_row}
 use Rattle.ids.specs.declared.ConnectionId.{ConnectionId}
-use Rattle.std.specs.Prelude.{Option, None}
+use Rattle.std.specs.Prelude.{Option, None, Some}
 use Rattle.dials.specs.declared.Fate.{Fate}
-use Rattle.dials.specs.declared.Fate.TheVariants.{Other, Stays, Goes, Closes}
+use Rattle.dials.specs.declared.Fate.TheVariants.{Stays, Goes, Closes}
 use Rattle.dials.specs.Dials.{stays, staying, fate_at, left_by, left_of, each, pairs}
-use Rattle.dials.proofs.Arrays.{map_place}
+use Rattle.rows.proofs.Arrays.{map_place}
 use Rattle.dials.proofs.Each.{length_pairs, pairs_at}
 
 abbrev pub stays_of : ConnectId → Row × Option ConnectionId → Bool
@@ -38,12 +38,12 @@ left_marked id [] fs (m ∷ ms) h = refl
 left_marked id (r ∷ rs) [] ms h = absurd (omega arith)
 left_marked id (r ∷ rs) (f ∷ fs) ms h = go (fate_at id r f) (left_marked id rs fs ms (omega arith))
   where
-    go : (t : Fate) → marked (map (stays_of id) (pairs rs fs) ++ ms) rs ≡ each (left_of id) (pairs rs fs)
+    go : (t : Option Fate) → marked (map (stays_of id) (pairs rs fs) ++ ms) rs ≡ each (left_of id) (pairs rs fs)
         → pick (stays t) (r ∷ marked (map (stays_of id) (pairs rs fs) ++ ms) rs) (marked (map (stays_of id) (pairs rs fs) ++ ms) rs) ≡ left_by r t ++ each (left_of id) (pairs rs fs)
-    go Other e = ap (λ (l : List Row). r ∷ l) e
-    go (Stays token) e = ap (λ (l : List Row). r ∷ l) e
-    go (Goes token) e = e
-    go (Closes token) e = e
+    go None e = ap (λ (l : List Row). r ∷ l) e
+    go (Some (Stays token)) e = ap (λ (l : List Row). r ∷ l) e
+    go (Some (Goes token)) e = e
+    go (Some (Closes token)) e = e
 
 -- the marked rows are those that are left
 pub staying_left : (id : ConnectId) (rs : List Row) (fs : List (Option ConnectionId)) → length rs ≤ length fs → marked (staying id (pairs rs fs)) rs ≡ each (left_of id) (pairs rs fs)
@@ -56,8 +56,8 @@ left_≤ id [] fs = omega arith
 left_≤ id (r ∷ rs) [] = omega arith
 left_≤ id (r ∷ rs) (f ∷ fs) = go (fate_at id r f) (left_≤ id rs fs)
   where
-    go : (t : Fate) → length (each (left_of id) (pairs rs fs)) ≤ length rs → length (left_by r t ++ each (left_of id) (pairs rs fs)) ≤ suc (length rs)
-    go Other h = omega arith
-    go (Stays token) h = omega arith
-    go (Goes token) h = omega arith
-    go (Closes token) h = omega arith
+    go : (t : Option Fate) → length (each (left_of id) (pairs rs fs)) ≤ length rs → length (left_by r t ++ each (left_of id) (pairs rs fs)) ≤ suc (length rs)
+    go None h = omega arith
+    go (Some (Stays token)) h = omega arith
+    go (Some (Goes token)) h = omega arith
+    go (Some (Closes token)) h = omega arith

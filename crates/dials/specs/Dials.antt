@@ -1,7 +1,7 @@
 -- Dropping the dials of an attempt (RULES.md, section 10.4).
 -- ---- the live connections
 -- the peer to ask for: the relay of a relay dial, else the attempt's target
-use Rattle.std.specs.Prelude.{ℕ, Bool, true, false, List, [], ◌∷◌, ◌++◌, map, length, set, take, replicate, ◌+◌, eqb, None, Option, Some}
+use Rattle.std.specs.Prelude.{ℕ, Bool, true, false, List, [], ◌∷◌, ◌++◌, map, length, set, take, ◌+◌, eqb, None, Option, Some}
 use Rattle.prelude.specs.Lists.{padded}
 use Rattle.prelude.specs.Choice.{pick}
 use Rattle.ids.specs.declared.PeerId.{PeerId}
@@ -17,7 +17,7 @@ use Rattle.kinds.specs.declared.Row.{Row}
 use Rattle.kinds.specs.Kinds.{entry_of}
 use Rattle.rows.specs.Rows.{capacity}
 use Rattle.dials.specs.declared.Fate.{Fate}
-use Rattle.dials.specs.declared.Fate.TheVariants.{Other, Stays, Goes, Closes}
+use Rattle.dials.specs.declared.Fate.TheVariants.{Stays, Goes, Closes}
 use Rattle.dials.specs.declared.Column.{Column}
 use Rattle.dials.specs.declared.Dropped.{Dropped}
 
@@ -40,59 +40,55 @@ asked_of target row = asked_entry (entry_of row) target
 unfoldable pub first_for : PeerId → (PeerId → Option ConnectionId) → Row → Option ConnectionId
 first_for target first row = first (asked_of target row)
 
--- nothing found for any row
-abbrev pub no_firsts : List (Option ConnectionId)
-no_firsts = replicate capacity None
-
 -- ---- what becomes of a dial
 unfoldable pub is_first : Option ConnectionId → ℕ → Bool
 is_first (Some first) conn = eqb first.0 conn
 is_first None conn = false
 
--- of the attempt's dials a live punch dial keeps its row, a live relay dial loses it, any other is closed too
-abbrev pub fate_by : DialPurpose → ConnectId → Bool → NatToken → Fate
-fate_by (Relay attempt relay) id live token = pick (eqb attempt.0 id.0) (pick live (Goes token) (Closes token)) Other
-fate_by (Punch attempt) id live token = pick (eqb attempt.0 id.0) (pick live (Stays token) (Closes token)) Other
-fate_by (Probe peer) id live token = Other
-fate_by (Reserve peer) id live token = Other
+-- of the attempt's dials, and no others: a live punch dial keeps its row, a live relay dial loses it, any other is closed too
+abbrev pub fate_by : DialPurpose → ConnectId → Bool → NatToken → Option Fate
+fate_by (Relay attempt relay) id live token = pick (eqb attempt.0 id.0) (Some (pick live (Goes token) (Closes token))) None
+fate_by (Punch attempt) id live token = pick (eqb attempt.0 id.0) (Some (pick live (Stays token) (Closes token))) None
+fate_by (Probe peer) id live token = None
+fate_by (Reserve peer) id live token = None
 
-unfoldable pub fate_of : ConnectId → Bool → Dial → Fate
+unfoldable pub fate_of : ConnectId → Bool → Dial → Option Fate
 fate_of id live dial = fate_by dial.purpose id live dial.token
 
-abbrev pub fate_entry : Entry → ConnectId → Bool → Fate
-fate_entry OtherEntry id live = Other
+abbrev pub fate_entry : Entry → ConnectId → Bool → Option Fate
+fate_entry OtherEntry id live = None
 fate_entry (Dialed dial) id live = fate_of id live dial
-fate_entry (Window end) id live = Other
-fate_entry (PathEntry attribution) id live = Other
+fate_entry (Window end) id live = None
+fate_entry (PathEntry attribution) id live = None
 
-unfoldable pub fate_at : ConnectId → Row → Option ConnectionId → Fate
+unfoldable pub fate_at : ConnectId → Row → Option ConnectionId → Option Fate
 fate_at id row first = fate_entry (entry_of row) id (is_first first row.key)
 
 -- its row stays
-unfoldable pub stays : Fate → Bool
-stays Other = true
-stays (Stays token) = true
-stays (Goes token) = false
-stays (Closes token) = false
+unfoldable pub stays : Option Fate → Bool
+stays None = true
+stays (Some (Stays token)) = true
+stays (Some (Goes token)) = false
+stays (Some (Closes token)) = false
 
 -- ---- what is left, retired and closed
-abbrev pub left_by : Row → Fate → List Row
-left_by row Other = row ∷ []
-left_by row (Stays token) = row ∷ []
-left_by row (Goes token) = []
-left_by row (Closes token) = []
+abbrev pub left_by : Row → Option Fate → List Row
+left_by row None = row ∷ []
+left_by row (Some (Stays token)) = row ∷ []
+left_by row (Some (Goes token)) = []
+left_by row (Some (Closes token)) = []
 
-abbrev pub retired_by : Fate → List NatToken
-retired_by Other = []
-retired_by (Stays token) = token ∷ []
-retired_by (Goes token) = token ∷ []
-retired_by (Closes token) = token ∷ []
+abbrev pub retired_by : Option Fate → List NatToken
+retired_by None = []
+retired_by (Some (Stays token)) = token ∷ []
+retired_by (Some (Goes token)) = token ∷ []
+retired_by (Some (Closes token)) = token ∷ []
 
-abbrev pub closed_by : Row → Fate → List ConnectionId
-closed_by row Other = []
-closed_by row (Stays token) = []
-closed_by row (Goes token) = []
-closed_by row (Closes token) = (record { 0 = row.key }) ∷ []
+abbrev pub closed_by : Row → Option Fate → List ConnectionId
+closed_by row None = []
+closed_by row (Some (Stays token)) = []
+closed_by row (Some (Goes token)) = []
+closed_by row (Some (Closes token)) = (record { 0 = row.key }) ∷ []
 
 -- what each gives, in order
 unfoldable pub each : {A B : Type 0} → (A → List B) → List A → List B

@@ -5,7 +5,7 @@ ghost use Rattle.std.specs.Prelude.{◌≡◌, ◌<◌, []};
 ghost use Rattle.rows.specs.declared.Table.TheVariants.{Dials};
 ghost use Rattle.rows.specs.Rows.{capacity};
 ghost use Rattle.rows.specs.Words.{rows_of, laid};
-ghost use Rattle.dials.specs.Dials.{column_of, pushed, no_token, no_connection, no_firsts, asked_by, asked_of, is_first, fate_of, fate_at, stays, staying, each, pairs, left_of, retired_of, closed_of, abort_with};
+ghost use Rattle.dials.specs.Dials.{column_of, pushed, no_token, no_connection, asked_by, asked_of, is_first, fate_of, fate_at, stays, staying, each, pairs, left_of, retired_of, closed_of, abort_with};
 
 use ids::{ConnectId, ConnectionId, NatToken, PeerId};
 use kinds::{Entry, Row};
@@ -30,11 +30,9 @@ pub struct Dropped {
     pub close: Column<ConnectionId>,
 }
 
-// What becomes of a dial.
+// What becomes of a dial of the attempt.
 #[derive(Clone, Copy)]
 pub enum Fate {
-    // It is another attempt's, or no attempt's.
-    Other,
     // A punch dial whose connection is live: its row stays.
     Stays(NatToken),
     // A relay dial whose connection is live: its row goes.
@@ -59,13 +57,6 @@ fn push<T: Copy>(column: &mut Column<T>, value: T)
 {
     column.values[column.count as usize] = value;
     column.count += 1;
-}
-
-// Nothing found for any row.
-pub fn no_firsts() -> Firsts
-    ensures { result ≡ no_firsts }
-{
-    [None; ROWS]
 }
 
 // The peer to ask for: the relay of a relay dial, else the attempt's target.
@@ -93,52 +84,45 @@ pub fn asked_of(row: Row, target: PeerId) -> PeerId
 fn is_first(live: Option<ConnectionId>, conn: u64) -> bool
     ensures { result ≡ is_first live conn }
 {
-    match live {
-        Some(first) => first.0 == conn,
-        None => false,
-    }
+    live == Some(ConnectionId(conn))
 }
 
-// What becomes of a dial of the attempt.
+// None for a dial of another attempt, or of none.
 #[tactic(auto, unfolding(crate::specs::Dials::fate_of))]
-fn fate_of(dial: Dial, id: ConnectId, live: bool) -> Fate
+fn fate_of(dial: Dial, id: ConnectId, live: bool) -> Option<Fate>
     ensures { result ≡ fate_of id live dial }
 {
     let token = dial.token;
     match dial.purpose {
-        DialPurpose::Relay(attempt, _) if attempt.0 == id.0 => {
-            if live {
-                Fate::Goes(token)
-            } else {
-                Fate::Closes(token)
-            }
-        }
-        DialPurpose::Punch(attempt) if attempt.0 == id.0 => {
-            if live {
-                Fate::Stays(token)
-            } else {
-                Fate::Closes(token)
-            }
-        }
-        _ => Fate::Other,
+        DialPurpose::Relay(attempt, _) if attempt == id => Some(if live {
+            Fate::Goes(token)
+        } else {
+            Fate::Closes(token)
+        }),
+        DialPurpose::Punch(attempt) if attempt == id => Some(if live {
+            Fate::Stays(token)
+        } else {
+            Fate::Closes(token)
+        }),
+        _ => None,
     }
 }
 
 #[tactic(auto, unfolding(crate::specs::Dials::fate_at))]
-fn fate_at(row: Row, id: ConnectId, first: Option<ConnectionId>) -> Fate
+fn fate_at(row: Row, id: ConnectId, first: Option<ConnectionId>) -> Option<Fate>
     ensures { result ≡ fate_at id row first }
 {
     match kinds::entry_of(row) {
         Entry::Dialed(dial) => fate_of(dial, id, is_first(first, row.key)),
-        Entry::Other | Entry::Window(_) | Entry::Path(_) => Fate::Other,
+        Entry::Other | Entry::Window(_) | Entry::Path(_) => None,
     }
 }
 
 #[tactic(auto, unfolding(crate::specs::Dials::stays))]
-fn stays_with(fate: Fate) -> bool
+fn stays_with(fate: Option<Fate>) -> bool
     ensures { result ≡ stays fate }
 {
-    matches!(&fate, Fate::Other | Fate::Stays(_))
+    matches!(fate, None | Some(Fate::Stays(_)))
 }
 
 // The rows that stay.
@@ -151,34 +135,26 @@ fn staying_of(l: &Ledger, id: ConnectId, firsts: Firsts) -> Marks
     })
 }
 
-// The tokens of the attempt's dials.
-fn retired_of(l: &Ledger, id: ConnectId, firsts: Firsts) -> Column<NatToken>
-    ensures { result ≡ column_of no_token (each (retired_of id) (pairs (rows_of Dials l.now) firsts)) }
+// The tokens of the attempt's dials, and the connections to close.
+fn dropped_of(l: &Ledger, id: ConnectId, firsts: Firsts) -> Dropped
+    ensures { result ≡ abort_with id (pairs (rows_of Dials l.now) firsts) }
 {
     let mut retired = empty_column(NatToken(0));
-    for i in 0..rows::used(l, Table::Dials) {
-        match fate_at(rows::row_at(l, Table::Dials, i), id, firsts[i]) {
-            Fate::Other => {}
-            Fate::Stays(token) | Fate::Goes(token) | Fate::Closes(token) => {
-                push(&mut retired, token);
-            }
-        }
-    }
-    retired
-}
-
-// The connections to close.
-fn closed_of(l: &Ledger, id: ConnectId, firsts: Firsts) -> Column<ConnectionId>
-    ensures { result ≡ column_of no_connection (each (closed_of id) (pairs (rows_of Dials l.now) firsts)) }
-{
     let mut close = empty_column(ConnectionId(0));
     for i in 0..rows::used(l, Table::Dials) {
         let row = rows::row_at(l, Table::Dials, i);
-        if let Fate::Closes(_) = fate_at(row, id, firsts[i]) {
-            push(&mut close, ConnectionId(row.key));
+        let Some(fate) = fate_at(row, id, firsts[i]) else {
+            continue;
+        };
+        match fate {
+            Fate::Stays(token) | Fate::Goes(token) => push(&mut retired, token),
+            Fate::Closes(token) => {
+                push(&mut retired, token);
+                push(&mut close, ConnectionId(row.key));
+            }
         }
     }
-    close
+    Dropped { retired, close }
 }
 
 // Drops the dials of the attempt, where the first live connection is known for each row.
@@ -186,9 +162,8 @@ pub fn abort_with(l: &mut Ledger, id: ConnectId, firsts: Firsts) -> Dropped
     ensures answer { result ≡ abort_with id (pairs (rows_of Dials l.old) firsts) }
     ensures words { l.new ≡ laid Dials (each (left_of id) (pairs (rows_of Dials l.old) firsts)) l.old }
 {
-    let retired = retired_of(l, id, firsts);
-    let close = closed_of(l, id, firsts);
+    let dropped = dropped_of(l, id, firsts);
     let marks = staying_of(l, id, firsts);
     rows::retain_marked(l, Table::Dials, marks);
-    Dropped { retired, close }
+    dropped
 }

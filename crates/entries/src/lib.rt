@@ -45,30 +45,21 @@ fn end_of(entry: Entry) -> Option<u64>
 pub fn dial_at(l: &Ledger, conn: ConnectionId) -> Option<Dial>
     ensures { result ≡ dial_at conn (rows_of Dials l.now) }
 {
-    match rows::find(l, Table::Dials, conn.0) {
-        Some(entry) => dial_of(entry),
-        None => None,
-    }
+    dial_of(rows::find(l, Table::Dials, conn.0)?)
 }
 
 #[tactic(auto, unfolding(crate::specs::Entries::path_at))]
 pub fn path_at(l: &Ledger, conn: ConnectionId) -> Option<Attribution>
     ensures { result ≡ path_at conn (rows_of Paths l.now) }
 {
-    match rows::find(l, Table::Paths, conn.0) {
-        Some(entry) => path_of(entry),
-        None => None,
-    }
+    path_of(rows::find(l, Table::Paths, conn.0)?)
 }
 
 #[tactic(auto, unfolding(crate::specs::Entries::end_at))]
 fn end_at(l: &Ledger, peer: PeerId) -> Option<u64>
     ensures { result ≡ end_at peer (rows_of Windows l.now) }
 {
-    match rows::find(l, Table::Windows, peer.0) {
-        Some(entry) => end_of(entry),
-        None => None,
-    }
+    end_of(rows::find(l, Table::Windows, peer.0)?)
 }
 
 // A window lasts while the reading is below its end.
@@ -76,10 +67,7 @@ fn end_at(l: &Ledger, peer: PeerId) -> Option<u64>
 pub fn window_open(l: &Ledger, peer: PeerId, reading: u64) -> bool
     ensures { result ≡ window_open peer reading (rows_of Windows l.now) }
 {
-    match end_at(l, peer) {
-        Some(until) => reading < until,
-        None => false,
-    }
+    end_at(l, peer).is_some_and(|until| reading < until)
 }
 
 // The later of the end of the peer's window and the end that is asked for.
@@ -87,10 +75,7 @@ pub fn window_open(l: &Ledger, peer: PeerId, reading: u64) -> bool
 pub fn punch_end(l: &Ledger, peer: PeerId, until: u64) -> u64
     ensures { result ≡ punch_end peer until (rows_of Windows l.now) }
 {
-    match end_at(l, peer) {
-        Some(old) => if old < until { until } else { old },
-        None => until,
-    }
+    end_at(l, peer).map_or(until, |old| old.max(until))
 }
 
 #[tactic(auto, unfolding(crate::specs::Entries::sooner))]

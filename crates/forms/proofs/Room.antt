@@ -11,8 +11,8 @@ use Rattle.prelude.specs.Choice.{pick, no}
 use Rattle.prelude.specs.Numbers.{max_u64}
 use Rattle.text.specs.Words.{ascii}
 use Rattle.text.specs.Decimal.{decimal}
-use Rattle.text.specs.Hexadecimal.{hexadecimal, bytes_text}
-use Rattle.text.proofs.Printing.{one, more}
+use Rattle.text.specs.Hexadecimal.{bytes_text}
+use Rattle.text.proofs.Printing.{one, more, hexadecimal_length}
 use Rattle.forms.specs.Forms.{kind_of, is_literal, opens, choice, split}
 use Rattle.forms.specs.Texts.{Value, number, some, absent, pair, unpaired, bytes, word, value_text, first_text, text_from, text, kind_of_value, Either}
 use Rattle.forms.specs.Room.{number_room, longest, value_room, room_from, room_of, FirstIs, KindsFrom, Kinds, AtMost, AllAtMost}
@@ -37,11 +37,6 @@ digits_most (suc k) v h = go (ltb v 10) refl (λ l. digits_most k (v / 10) (omeg
 
 number_most : (v : ℕ) → v ≤ max_u64 → length (decimal v) ≤ number_room
 number_most v h = digits_most 19 v (omega arith)
-
-pub hexadecimal_length : (s : List ℕ) → length (hexadecimal s) ≡ 2 * length s
-unfolding hexadecimal
-hexadecimal_length [] = refl
-hexadecimal_length (b ∷ s) = omega (arith, hexadecimal_length s)
 
 bytes_most : (most : ℕ) (s : List ℕ) → length s ≤ most → length (bytes_text s) ≤ 2 * most + 1
 bytes_most most [] h = omega arith

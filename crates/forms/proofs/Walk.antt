@@ -7,7 +7,7 @@ use native.Mathlib.Omega.{arith}
 use lib.Dec.{eqb, ltb}
 use lib.ListN.{length, take, drop, get_or, length-drop, drop_of_length-le}
 use lib.Seq.{drop-drop}
-use borrow.Author.Tests.{eq-eqb, ne_eqb, ltb-true, ltb-false}
+use borrow.Author.Tests.{eq-eqb, ne_eqb, eqb-true, eqb-false, ltb-true, ltb-false}
 use Rattle.std.specs.Prelude.{Option}
 use Rattle.prelude.specs.Choice.{pick, no}
 use Rattle.text.specs.Words.{begins, length_before}
@@ -16,13 +16,7 @@ use Rattle.text.proofs.Reading.{at, before_within}
 use Rattle.text.proofs.Printing.{Laid, laid_none, rest_of, then}
 use Rattle.forms.specs.Forms.{kind_of, is_literal, opens, choice_length, choice, behind_choice, words_of, listed, is_good, Reading, Good, Bad, prepend, followed, read_from, read_form, is_read, words_from, Stored}
 use Rattle.forms.specs.declared.Kind.{Kind}
-use Rattle.forms.specs.declared.Kind.TheVariants as kind
 use Rattle.forms.specs.declared.Words.{Words}
-
--- no mark is above 60
-pub no_mark : (b : ℕ) → 60 < b → kind.Literal ≡ kind_of b
-unfolding kind_of
-no_mark b h = rw (ne_eqb b 35 (λ e. omega arith), ne_eqb b 42 (λ e. omega arith), ne_eqb b 58 (λ e. omega arith), ne_eqb b 37 (λ e. omega arith), ne_eqb b 40 (λ e. omega arith))
 
 pub literal : {r t : Bool} {k : Kind} (b : ℕ) → r ≡ is_literal k → k ≡ kind_of b → r ≡ t → is_literal (kind_of b) ≡ t
 literal b e f g = rw (← f, ← e) g
@@ -197,13 +191,20 @@ module _ {form line before : List ℕ} {f i : ℕ} {got : List ℕ} {n : ℕ} (w
   unfolding words_from
   all_words = words ∙ rw (drop_of_length-le form hf, append-nil ws)
 
-  pub bytes_left : i < length line → (read_form form line ≡ Bad) × (words_from false form 0 line ≡ ws)
+  bytes_left : i < length line → (read_form form line ≡ Bad) × (words_from false form 0 line ≡ ws)
   unfolding read_from
   bytes_left h = (rest ∙ rw (drop_of_length-le form hf, at line i h), all_words)
 
-  pub whole : length line ≤ i → read_form form line ≡ Good ws
+  whole : length line ≤ i → read_form form line ≡ Good ws
   unfolding read_from
   whole h = rest ∙ rw (drop_of_length-le form hf, drop_of_length-le line h, append-nil ws)
 
-  pub all_read : length line ≤ i → (true ≡ is_read (read_form form line)) × Stored form line before got
+  all_read : length line ≤ i → (true ≡ is_read (read_form form line)) × Stored form line before got
   all_read h = (ap is_read (sym (whole h)), stored.bytes ∙ ap (printed before 0) (sym all_words))
+
+  pub finished : i ≤ length line → (eqb i (length line) ≡ is_read (read_form form line)) × Stored form line before got
+  finished h = go (eqb i (length line)) refl
+    where
+      go : (t : Bool) → eqb i (length line) ≡ t → (t ≡ is_read (read_form form line)) × Stored form line before got
+      go true e = all_read (omega (arith, eqb-true _ _ e))
+      go false e = unread form line before got (bytes_left (omega (arith, eqb-false _ _ e))) stored

@@ -1,12 +1,14 @@
 // Lines whose form is data: one reader and one printer for every form.
 #![tactic(auto)]
 
-ghost use Rattle.std.specs.Prelude.{◌≡◌, true, false, ◌∷◌, [], ◌+◌, ◌≤◌, min, take, get_or, Some};
-ghost use Rattle.text.specs.Printed.{printed, behind};
+ghost use Rattle.std.specs.Prelude.{◌≡◌, true, false, ◌∷◌, [], take, get_or, Some};
+ghost use Rattle.text.specs.Printed.{printed, behind, page, with_text};
 ghost use Rattle.text.specs.Decimal.{decimal_of};
 ghost use Rattle.forms.specs.Forms.{kind_of, is_literal, choice_length, behind_choice, literals, split, number_words, maybe_words, pair_words, bytes_words, which_word, words_of, listed, is_read, read_form, Stored};
 ghost use Rattle.text.specs.Hexadecimal.{bytes_text};
 ghost use Rattle.forms.specs.Texts.{Value, word_at, maybe_text, pair_text, value_text, text, width, value_in, values_in, part};
+
+use text::Printer;
 
 // What a byte of a form stands for: itself, or a value.
 #[derive(Clone, Copy)]
@@ -52,24 +54,20 @@ pub enum Words {
 fn number_words(value: &[u8]) -> Option<Words>
     ensures { result ≡ number_words (decimal_of value.now) }
 {
-    match text::read_decimal(value) {
-        Some(v) => Some(Words::One(v)),
-        None => None,
-    }
+    Some(Words::One(text::read_decimal(value)?))
 }
 
+#[tactic(auto, unfolding(crate::specs::Forms::maybe_words))]
 fn maybe_words(value: &[u8]) -> Option<Words>
     ensures { result ≡ maybe_words value.now }
 {
     if text::is_word(value, b"none") {
         return Some(Words::Two(0, 0));
     }
-    match text::read_decimal(value) {
-        Some(v) => Some(Words::Two(1, v)),
-        None => None,
-    }
+    Some(Words::Two(1, text::read_decimal(value)?))
 }
 
+#[tactic(auto, unfolding(crate::specs::Forms::pair_words))]
 fn pair_words(value: &[u8]) -> Option<Words>
     ensures { result ≡ pair_words value.now }
 {
@@ -80,12 +78,8 @@ fn pair_words(value: &[u8]) -> Option<Words>
     if value.len() <= n {
         return None;
     }
-    let Some(first) = text::read_decimal(&value[..n]) else {
-        return None;
-    };
-    let Some(second) = text::read_decimal(&value[n + 1..]) else {
-        return None;
-    };
+    let first = text::read_decimal(&value[..n])?;
+    let second = text::read_decimal(&value[n + 1..])?;
     Some(Words::Three(1, first, second))
 }
 
@@ -96,13 +90,10 @@ fn bytes_words(value: &[u8], start: usize, end: usize) -> Option<Words>
     if text::is_word(value, b"-") {
         return Some(Words::Two(start as u64, start as u64));
     }
-    if value.len() == 0 {
+    if value.is_empty() || !text::is_hexadecimal(value) {
         return None;
     }
-    if text::is_hexadecimal(value) {
-        return Some(Words::Two(start as u64, end as u64));
-    }
-    None
+    Some(Words::Two(start as u64, end as u64))
 }
 
 // Which of the words between slashes a value is. By `split` and `position`, byte by byte, lines with choices are read a fifth slower.
@@ -139,31 +130,21 @@ fn value_words(kind: Kind, choice: &[u8], value: &[u8], start: usize, end: usize
     }
 }
 
-fn put_word(v: u64, got: &mut [u64], n: usize) -> usize
-    ensures bytes { got.new ≡ printed got.old n (v ∷ []) }
-    ensures place { result ≡ behind got.old n (v ∷ []) }
-{
-    if n < got.len() {
-        got[n] = v;
-        return n + 1;
-    }
-    n
-}
-
+#[tactic(auto, using(text::proofs::Printing::one_set, text::proofs::Printing::one_place))]
 fn put_words(w: Words, got: &mut [u64], n: usize) -> usize
     ensures bytes { got.new ≡ printed got.old n (listed (Some w)) }
     ensures place { result ≡ behind got.old n (listed (Some w)) }
 {
     match w {
-        Words::One(a) => put_word(a, got, n),
+        Words::One(a) => text::store(a, got, n),
         Words::Two(a, b) => {
-            let m = put_word(a, got, n);
-            put_word(b, got, m)
+            let m = text::store(a, got, n);
+            text::store(b, got, m)
         }
         Words::Three(a, b, c) => {
-            let m = put_word(a, got, n);
-            let m = put_word(b, got, m);
-            put_word(c, got, m)
+            let m = text::store(a, got, n);
+            let m = text::store(b, got, m);
+            text::store(c, got, m)
         }
     }
 }
@@ -202,112 +183,87 @@ pub fn read_form(form: &[u8], line: &[u8], got: &mut [u64]) -> bool
         let g = f + 1;
         let kind = kind_of(b);
         if is_literal(kind) {
-            if line.len() <= i {
-                return false;
-            }
-            if line[i] != b {
+            if line.len() <= i || line[i] != b {
                 return false;
             }
             i += 1;
             f = g;
-        } else {
-            let e = i + text::length_before(&line[i..], b' ');
-            let c = g + choice_length(kind, &form[g..]);
-            let w = value_words(kind, &form[g..c], &line[i..e], i, e);
-            match w {
-                Some(words) => {
-                    n = put_words(words, got, n);
-                    i = e;
-                    f = behind_choice(kind, c, form.len());
-                }
-                None => return false,
-            }
+            continue;
         }
+        let e = i + text::length_before(&line[i..], b' ');
+        let c = g + choice_length(kind, &form[g..]);
+        let Some(words) = value_words(kind, &form[g..c], &line[i..e], i, e) else {
+            return false;
+        };
+        n = put_words(words, got, n);
+        i = e;
+        f = behind_choice(kind, c, form.len());
     }
-    if i == line.len() {
-        return true;
-    }
-    false
+    i == line.len()
 }
 
-// ---- printing: each answers the place behind its text; what the buffer has no room for is left out
+// ---- printing: what the buffer has no room for is left out
 
 // A number of those lent; 0 behind them.
 pub fn word_at(words: &[u64], n: usize) -> u64
     ensures { result ≡ get_or words.now n 0 }
 {
-    if n < words.len() {
-        return words[n];
-    }
-    0
+    words.get(n).copied().unwrap_or(0)
 }
 
-fn put_maybe(given: u64, v: u64, out: &mut [u8], at: usize) -> usize
-    ensures bytes { out.new ≡ printed out.old at (maybe_text given v) }
-    ensures place { result ≡ behind out.old at (maybe_text given v) }
+fn put_maybe(given: u64, v: u64, printer: &mut Printer<'_>)
+    ensures { page printer.new ≡ with_text (page printer.old) (maybe_text given v) }
 {
-    if given == 0 {
-        return text::put_text(b"none", out, at);
+    match given {
+        0 => printer.put_text(b"none"),
+        _ => printer.put_decimal(v),
     }
-    text::put_decimal(v, out, at)
 }
 
-fn put_pair(given: u64, a: u64, b: u64, out: &mut [u8], at: usize) -> usize
-    ensures bytes { out.new ≡ printed out.old at (pair_text given a b) }
-    ensures place { result ≡ behind out.old at (pair_text given a b) }
+#[tactic(auto, using(text::proofs::Printing::with_texts))]
+fn put_pair(given: u64, a: u64, b: u64, printer: &mut Printer<'_>)
+    ensures { page printer.new ≡ with_text (page printer.old) (pair_text given a b) }
 {
     if given == 0 {
-        return text::put_text(b"none", out, at);
+        printer.put_text(b"none");
+    } else {
+        printer.put_decimal(a);
+        printer.put_byte(b':');
+        printer.put_decimal(b);
     }
-    let p = text::put_decimal(a, out, at);
-    let p = text::put_byte(b':', out, p);
-    text::put_decimal(b, out, p)
 }
 
 // Bytes of a source from a place up to another.
-fn put_part(source: &[u8], start: u64, end: u64, out: &mut [u8], at: usize) -> usize
-    ensures bytes { out.new ≡ printed out.old at (bytes_text (part source.now start end)) }
-    ensures place { result ≡ behind out.old at (bytes_text (part source.now start end)) }
+#[tactic(auto, using(crate::proofs::Print::part_within))]
+fn put_part(source: &[u8], start: u64, end: u64, printer: &mut Printer<'_>)
+    ensures { page printer.new ≡ with_text (page printer.old) (bytes_text (part source.now start end)) }
 {
-    let s = start as usize;
-    let e = text::least(end as usize, source.len());
-    if e <= s {
-        return text::put_byte(b'-', out, at);
-    }
-    text::put_bytes(&source[s..e], out, at)
+    let end = source.len().min(end as usize);
+    let start = end.min(start as usize);
+    printer.put_bytes(&source[start..end]);
 }
 
 // A word of a choice by its place; nothing where there is none.
-fn put_choice(choice: &[u8], k: u64, out: &mut [u8], at: usize) -> usize
-    ensures bytes { out.new ≡ printed out.old at (word_at choice.now k) }
-    ensures place { result ≡ behind out.old at (word_at choice.now k) }
+fn put_choice(choice: &[u8], k: u64, printer: &mut Printer<'_>)
+    ensures { page printer.new ≡ with_text (page printer.old) (word_at choice.now k) }
 {
-    match choice.split(|b| *b == b'/').nth(k as usize) {
-        Some(word) => text::put_text(word, out, at),
-        None => at,
-    }
+    let word = choice.split(|b| *b == b'/').nth(k as usize);
+    printer.put_text(word.unwrap_or(b""));
 }
 
-fn put_value(
-    kind: Kind,
-    choice: &[u8],
-    words: &[u64],
-    source: &[u8],
-    out: &mut [u8],
-    at: usize,
-) -> usize
-    ensures bytes { out.new ≡ printed out.old at (value_text choice.now (value_in (part source.now) kind words.now)) }
-    ensures place { result ≡ behind out.old at (value_text choice.now (value_in (part source.now) kind words.now)) }
+#[tactic(auto, unfolding(crate::specs::Texts::value_text, crate::specs::Texts::value_in))]
+fn put_value(kind: Kind, choice: &[u8], words: &[u64], source: &[u8], printer: &mut Printer<'_>)
+    ensures { page printer.new ≡ with_text (page printer.old) (value_text choice.now (value_in (part source.now) kind words.now)) }
 {
     let a = word_at(words, 0);
     let b = word_at(words, 1);
     match kind {
-        Kind::Literal => text::put_text(b"none", out, at),
-        Kind::Number => text::put_decimal(a, out, at),
-        Kind::Maybe => put_maybe(a, b, out, at),
-        Kind::Pair => put_pair(a, b, word_at(words, 2), out, at),
-        Kind::Bytes => put_part(source, a, b, out, at),
-        Kind::Choice => put_choice(choice, a, out, at),
+        Kind::Literal => printer.put_text(b"none"),
+        Kind::Number => printer.put_decimal(a),
+        Kind::Maybe => put_maybe(a, b, printer),
+        Kind::Pair => put_pair(a, b, word_at(words, 2), printer),
+        Kind::Bytes => put_part(source, a, b, printer),
+        Kind::Choice => put_choice(choice, a, printer),
     }
 }
 
@@ -325,54 +281,36 @@ fn width_of(kind: Kind) -> usize
     }
 }
 
-// A place so many words further, within the words.
-fn further(n: usize, by: usize, size: usize) -> usize
-    requires { n ≤ size }
-    ensures { result ≡ min (n + by) size }
-{
-    if size - n < by {
-        return size;
-    }
-    n + by
-}
-
 // The bytes of a form up to its first mark, printed; answers how many they are.
-fn put_literals(form: &[u8], out: &mut [u8], at: usize) -> usize
-    ensures bytes { out.new ≡ printed out.old at (take (literals form.now) form.now) }
+fn put_literals(form: &[u8], printer: &mut Printer<'_>) -> usize
+    ensures bytes { page printer.new ≡ with_text (page printer.old) (take (literals form.now) form.now) }
     ensures count { result ≡ literals form.now }
 {
     let n = form
         .iter()
         .position(|b| !is_literal(kind_of(*b)))
         .unwrap_or(form.len());
-    text::put_text(&form[..n], out, at);
+    printer.put_text(&form[..n]);
     n
 }
 
 // Prints a line by a form: the values that words stand for, bytes from a source.
 // As in read_form, the form and the words go on by different lengths.
-pub fn put_form(form: &[u8], words: &[u64], source: &[u8], out: &mut [u8], at: usize) -> usize
-    ensures bytes { out.new ≡ printed out.old at (text form.now (values_in source.now form.now words.now)) }
-    ensures place { result ≡ behind out.old at (text form.now (values_in source.now form.now words.now)) }
+pub fn put_form(form: &[u8], words: &[u64], source: &[u8], printer: &mut Printer<'_>)
+    ensures { page printer.new ≡ with_text (page printer.old) (text form.now (values_in source.now form.now words.now)) }
 {
-    if out.len() < at {
-        return at;
-    }
     let mut f: usize = 0;
     let mut n: usize = 0;
-    let mut p = at;
     loop {
-        let m = put_literals(&form[f..], out, p);
-        p = further(p, m, out.len());
-        f += m;
+        f += put_literals(&form[f..], printer);
         if form.len() <= f {
-            return p;
+            return;
         }
         let g = f + 1;
         let kind = kind_of(form[f]);
         let c = g + choice_length(kind, &form[g..]);
-        p = put_value(kind, &form[g..c], &words[n..], source, out, p);
-        n = further(n, width_of(kind), words.len());
+        put_value(kind, &form[g..c], &words[n..], source, printer);
+        n = words.len().min(n + width_of(kind));
         f = behind_choice(kind, c, form.len());
     }
 }

@@ -1,6 +1,6 @@
 -- The frames that go out: what the encoder's answer makes of them, and how long they are.
 -- Assumes nothing.
-use mathlib.Core.Path.{◌≡◌, refl, sym, ap, ◌∙◌}
+use mathlib.Core.Path.{◌≡◌, refl, ap, ◌∙◌}
 use mathlib.Core.Bool.{Bool, true, false}
 use mathlib.Core.List.{List, [], ◌∷◌}
 use Prim.Native.Nat.{ℕ, zero, suc, ◌+◌, ◌-◌, ◌*◌, ◌/◌, ◌^◌, ◌<◌, ◌≤◌}
@@ -9,6 +9,7 @@ use borrow.Author.Tests.{le-leb, lt-leb, ltb-true, ltb-false}
 use lib.Dec.{ltb, leb}
 use lib.ListN.{length, drop, replicate, length-append, length-replicate}
 use Rattle.std.specs.Prelude.{Err, Ok, Result, ℕ}
+use Rattle.std.specs.Result.{result_unwrap_or}
 use Rattle.prelude.specs.Lists.{count}
 use Rattle.prelude.specs.Choice.{pick, bit}
 use Rattle.refusal.specs.declared.Refusal.{Refusal}
@@ -27,7 +28,7 @@ use Rattle.address.specs.Multiaddr.{longest4, longest6}
 use Rattle.candidates.specs.Entries.{longer_than}
 use Rattle.candidates.specs.Selection.{usual, most}
 use Rattle.frames.specs.Sent.{frame_capacity, field_size, packed, connect_frame}
-use Rattle.frames.specs.declared.Framed.{Framed}
+use Rattle.frames.specs.Sent.{Framed}
 
 -- ---- the encoder's answer, packed
 
@@ -38,8 +39,7 @@ rest_blank (suc k) (suc n) x = let e : suc n - suc k ≡ n - k = omega arith in 
 
 -- the answer and the buffer that the encoder leaves make a frame
 abbrev made : Result ℕ Refusal → List ℕ → Framed
-made (Ok n) o = record { bytes = o; len = n }
-made (Err w) o = record { bytes = o; len = 0 }
+made r o = record { bytes = o; len = result_unwrap_or r 0 }
 
 module _ (s : List ℕ) where
   abbrev m : List ℕ
@@ -69,16 +69,10 @@ module _ (s : List ℕ) where
           rw (le-leb (length f) frame_capacity (ltb-false frame_capacity (length f) j), rest_blank (length f) frame_capacity 0)
 
   module _ {r : Result ℕ Refusal} {o b : List ℕ} (z : b ≡ replicate frame_capacity 0) (a : r ≡ frame_encode_of Connect s (length b)) (i : o ≡ frame_encode_into Connect s b) where
-    whole : made r o ≡ connect_frame s
-    whole =
+    pub connect_made : made r o ≡ connect_frame s
+    connect_made =
         let l : length b ≡ frame_capacity = ap length z ∙ length-replicate {A = ℕ} frame_capacity 0 in
         rw (a, i, l, z) made_is
-
-    pub connect_made : {n : ℕ} → r ≡ Ok n → record { bytes = o; len = n } ≡ connect_frame s
-    connect_made g = sym (ap (λ (x : Result ℕ Refusal). made x o) g) ∙ whole
-
-    pub connect_refused : {w : Refusal} → r ≡ Err w → record { bytes = o; len = 0 } ≡ connect_frame s
-    connect_refused g = sym (ap (λ (x : Result ℕ Refusal). made x o) g) ∙ whole
 
 -- ---- how long CONNECT is
 

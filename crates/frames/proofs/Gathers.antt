@@ -4,7 +4,7 @@
 use mathlib.Core.Path.{◌≡◌, refl, sym, ap, subst, ◌∙◌}
 use mathlib.Core.Bool.{Bool, true, false}
 use mathlib.Core.List.{List, [], ◌∷◌, ◌++◌, append_assoc}
-use Prim.Native.Nat.{ℕ, zero, suc, ◌+◌, ◌-◌, ◌<◌, ◌≤◌}
+use Prim.Native.Nat.{ℕ, suc, ◌+◌, ◌-◌, ◌<◌, ◌≤◌}
 use native.Mathlib.Numerals.{add-one}
 use native.Mathlib.Omega.{arith}
 use borrow.Author.Tests.{lt-ltb, le-ltb, le-leb, lt-leb, leb-true, leb-false}
@@ -21,24 +21,6 @@ use Rattle.frames.specs.declared.Gathered.{Gathered}
 use Rattle.frames.specs.Gathering.{Gathering, ends, judged, gathering, gathered, gathered_into, frame_byte}
 
 -- ---- a byte of the frame
-
-past : (s : List ℕ) (i : ℕ) → length s ≤ i → get_or s i 0 ≡ 0
-past [] i h = refl
-past (x ∷ s) zero h = absurd (omega arith)
-past (x ∷ s) (suc i) h = past s i (omega arith)
-
-module _ (xs b : List ℕ) (n p : ℕ) where
-  pub byte_stored : p < n → get_or b p 0 ≡ frame_byte xs b n p
-  byte_stored h = rw (lt-ltb p n h)
-
-  pub byte_missing : p < n → length b ≤ p → 0 ≡ frame_byte xs b n p
-  byte_missing h l = rw (lt-ltb p n h) (sym (past b p l))
-
-  pub byte_new : n ≤ p → get_or xs (p - n) 0 ≡ frame_byte xs b n p
-  byte_new h = rw (le-ltb p n h)
-
-  pub byte_none : n ≤ p → length xs ≤ p - n → 0 ≡ frame_byte xs b n p
-  byte_none h l = rw (le-ltb p n h) (sym (past xs (p - n) l))
 
 -- where the count is within the buffer, the frame's bytes are those before the count, then the input's
 byte_of : (xs b : List ℕ) (n p : ℕ) → n ≤ length b → get_or (take n b ++ xs) p 0 ≡ frame_byte xs b n p

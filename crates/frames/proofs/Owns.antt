@@ -1,6 +1,6 @@
 -- The CONNECT of an own list: the candidates chosen from it always fit a frame.
 -- Assumes nothing.
-use mathlib.Core.Path.{◌≡◌, refl, sym, ◌∙◌, ap}
+use mathlib.Core.Path.{◌≡◌, refl, sym, ◌∙◌}
 use mathlib.Core.Bool.{Bool, true, false}
 use mathlib.Core.List.{List, []}
 use Prim.Native.Nat.{ℕ, ◌-◌, ◌≤◌}
@@ -13,11 +13,11 @@ use Rattle.message.specs.declared.Kind.TheVariants.{Connect}
 use Rattle.message.specs.Encoding.{frame_bytes}
 use Rattle.frames.specs.Sent.{connect_frame, chosen_connect, own_connect}
 use Rattle.frames.specs.Sent as frame
-use Rattle.frames.specs.declared.Framed.{Framed}
+use Rattle.frames.specs.Sent.{Framed}
 use Rattle.frames.proofs.Frames.{connect_listed}
 use Rattle.candidates.specs.Selection.{usual, most, held, own, packed, capacity, answered}
 use Rattle.candidates.specs.declared.Limits.{Limits}
-use Rattle.candidates.specs.declared.Chosen.{Chosen}
+use Rattle.candidates.specs.Selection.{Chosen}
 use Rattle.candidates.proofs.Answers.{held_small}
 use Rattle.candidates.proofs.Promises.{own_short, own_limits, own_list}
 use Rattle.refusal.specs.declared.Refusal.{Refusal}

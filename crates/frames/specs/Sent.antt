@@ -1,15 +1,15 @@
 -- The frames that go out (RULES.md, sections 3 and 4).
 use Rattle.std.specs.Prelude.{ℕ, ◌+◌, ◌*◌, List, [], ◌∷◌, ◌++◌, length, take, replicate, leb}
-use Rattle.prelude.specs.Lists.{padded}
 use Rattle.prelude.specs.Choice.{pick}
 use Rattle.wire.specs.Lists.{entries, broken, listed}
 use Rattle.message.specs.Encoding.{frame_bytes}
 use Rattle.message.specs.declared.Kind.TheVariants.{Connect, Sync}
-use Rattle.candidates.specs.declared.Chosen.{Chosen}
+use Rattle.candidates.specs.Selection.{Chosen}
 use Rattle.address.specs.Multiaddr.{longest4, longest6}
 use Rattle.candidates.specs.declared.Limits.{Limits}
 use Rattle.candidates.specs.Selection.{usual, held, own}
-use Rattle.frames.specs.declared.Framed.{Framed}
+use Rattle.wire.specs.declared.Packed.{Packed}
+use Rattle.wire.specs.Packed as wire
 
 -- two bytes of length and the type's field; and a field with its tag and a length of two bytes at most before the address
 abbrev pub head_size : ℕ
@@ -22,9 +22,12 @@ field_size n = 3 + n
 abbrev pub frame_capacity : ℕ
 frame_capacity = head_size + (usual.family * field_size longest4 + usual.family * field_size longest6)
 
--- a frame's bytes from the first on, zero bytes behind them, and their number
+-- a frame in that room, zero bytes behind it
+abbrev pub Framed : Type 0
+Framed = Packed frame_capacity
+
 abbrev pub packed : List ℕ → Framed
-packed s = record { bytes = padded frame_capacity 0 s; len = length s }
+packed s = wire.packed frame_capacity s
 
 -- a frame's bytes where it has room, else nothing
 abbrev pub fitted : List ℕ → Framed

@@ -15,7 +15,7 @@ ghost use Rattle.frames.specs.Gathering.{gathered, gathered_into, frame_byte};
 
 use candidates::{Chosen, Limits};
 use message::Kind;
-use wire::Frame;
+use wire::{Frame, Packed};
 
 // ---- Frames that go out
 
@@ -33,11 +33,7 @@ pub const FRAME_CAPACITY: usize = HEAD_SIZE
 pub type FrameBytes = [u8; FRAME_CAPACITY];
 
 // A frame's bytes from the first on, and their number.
-#[derive(Clone, Copy)]
-pub struct Framed {
-    pub bytes: FrameBytes,
-    pub len: usize,
-}
+pub type Framed = Packed<FRAME_CAPACITY>;
 
 pub fn blank() -> FrameBytes
     ensures { result ≡ replicate frame_capacity 0 }
@@ -45,38 +41,13 @@ pub fn blank() -> FrameBytes
     [0u8; FRAME_CAPACITY]
 }
 
-pub fn size(bytes: &[u8]) -> usize
-    ensures { result ≡ length bytes.now }
-{
-    bytes.len()
-}
-
-// How long a frame's bytes are: a fact for the proofs.
-pub fn known(bytes: &FrameBytes)
-    ensures { length bytes.now ≡ frame_capacity }
-{}
-
-impl Framed {
-    // No frame.
-    pub fn empty() -> Self
-        ensures { result ≡ packed [] }
-    {
-        Framed {
-            bytes: blank(),
-            len: 0,
-        }
-    }
-}
-
 // The framed CONNECT with the addresses of a list; empty for a broken list, or for one whose frame has no room.
 pub fn connect_frame(own: &[u8]) -> Framed
     ensures { result ≡ connect_frame own.now }
 {
     let mut bytes = blank();
-    match message::encode_frame(Kind::Connect, own, &mut bytes) {
-        Ok(len) => Framed { bytes, len },
-        Err(_) => Framed { bytes, len: 0 },
-    }
+    let len = message::encode_frame(Kind::Connect, own, &mut bytes).unwrap_or(0);
+    Framed { bytes, len }
 }
 
 // The framed SYNC.
@@ -105,6 +76,7 @@ fn connect_of(chosen: Chosen) -> Framed
 pub fn own_connect(list: &[u8], limits: Limits) -> Framed
     ensures { result ≡ own_connect limits list.now }
 {
+    // A match: what connect_of requires holds of what was chosen, and map_or does not hand that on to it.
     match candidates::own_punch_candidates(list, limits) {
         Err(_) => Framed::empty(),
         Ok(chosen) => connect_of(chosen),
@@ -124,17 +96,12 @@ pub struct Gathered {
 fn frame_byte(input: &[u8], buffer: &[u8], count: usize, place: usize) -> u8
     ensures { result ≡ frame_byte input.now buffer.now count place }
 {
-    if place < count {
-        if place < buffer.len() {
-            return buffer[place];
-        }
-        return 0;
-    }
-    let i = place - count;
-    if i < input.len() {
-        return input[i];
-    }
-    0
+    let byte = if place < count {
+        buffer.get(place)
+    } else {
+        input.get(place - count)
+    };
+    byte.copied().unwrap_or(0)
 }
 
 // What gathering an input would answer, with the buffer left as it is.

@@ -12,8 +12,8 @@ use Rattle.ids.specs.declared.PeerId.{PeerId}
 use Rattle.ids.specs.declared.ConnectionId.{ConnectionId}
 use Rattle.refusal.specs.declared.Refusal.TheVariants.{ReplyBufferTooShort}
 use Rattle.budget.specs.declared.UpgradeBudget.{UpgradeBudget}
-use Rattle.candidates.specs.declared.Chosen.{Chosen}
-use Rattle.frames.specs.declared.Framed.{Framed}
+use Rattle.candidates.specs.Selection.{Chosen}
+use Rattle.frames.specs.Sent.{Framed}
 use Rattle.frames.specs.Sent.{own_connect}
 use Rattle.ledger.specs.Ledger.{PathLedger}
 use Rattle.vocabulary.specs.declared.Settings.{Settings}

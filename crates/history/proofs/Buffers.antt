@@ -7,8 +7,8 @@ use Rattle.std.specs.Prelude.{Err, Ok, Result, ⊤}
 use Rattle.prelude.specs.Choice.{pick}
 use Rattle.ids.specs.declared.StreamId.{StreamId}
 use Rattle.budget.specs.declared.UpgradeBudget.{UpgradeBudget}
-use Rattle.candidates.specs.declared.Chosen.{Chosen}
-use Rattle.frames.specs.declared.Framed.{Framed}
+use Rattle.candidates.specs.Selection.{Chosen}
+use Rattle.frames.specs.Sent.{Framed}
 use Rattle.frames.specs.Gathering.{gathered_into}
 use Rattle.vocabulary.specs.declared.Host.{Host}
 use Rattle.vocabulary.specs.declared.StreamInput.{StreamInput}

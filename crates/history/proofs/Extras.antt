@@ -14,7 +14,7 @@ use Rattle.ids.specs.declared.ConnectionId.{ConnectionId}
 use Rattle.ids.specs.declared.StreamId.{StreamId}
 use Rattle.refusal.specs.declared.Refusal.{Refusal}
 use Rattle.refusal.specs.declared.Refusal.TheVariants.{ReplyBufferTooShort}
-use Rattle.candidates.specs.declared.Chosen.{Chosen}
+use Rattle.candidates.specs.Selection.{Chosen}
 use Rattle.candidates.specs.Selection.{selected}
 use Rattle.ledger.specs.Ledger.{PathLedger, refuses_punches}
 use Rattle.vocabulary.specs.declared.Settings.{Settings}
@@ -114,7 +114,7 @@ module _ (c : InboundCircuit) (promoted : Bool) (e : c.core.phase ≡ Done promo
       (at_last
       (λ p. Idle c
       (answer c own chosen
-      (input_at c.core h stream kind pending (peeked c.core buffer bytes).heard chosen.len (refuses_punches l c.core.source) p)))
+      (input_at c.core h stream kind pending (Some (peeked c.core buffer bytes).heard) (refuses_punches l c.core.source) p)))
       (quiet_idle c own chosen))
       (check_of c.core.phase h.offer own)))
     where

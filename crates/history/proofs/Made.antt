@@ -8,8 +8,8 @@ use Rattle.prelude.specs.Choice.{pick}
 use Rattle.ids.specs.declared.ConnectionId.{ConnectionId}
 use Rattle.ids.specs.declared.PeerId.{PeerId}
 use Rattle.ids.specs.declared.StreamId.{StreamId}
-use Rattle.candidates.specs.declared.Chosen.{Chosen}
-use Rattle.frames.specs.declared.Framed.{Framed}
+use Rattle.candidates.specs.Selection.{Chosen}
+use Rattle.frames.specs.Sent.{Framed}
 use Rattle.frames.specs.Sent.{own_connect}
 use Rattle.ledger.specs.Ledger.{PathLedger, refuses_punches}
 use Rattle.vocabulary.specs.declared.Host.{Host}

@@ -20,8 +20,8 @@ use Rattle.budget.specs.Budget.{due_at, may_begin, ended}
 use Rattle.budget.specs.Budget as budget
 use Rattle.schedule.specs.declared.BlastSchedule.{BlastSchedule}
 use Rattle.schedule.specs.Schedule.{due_of}
-use Rattle.candidates.specs.declared.Chosen.{Chosen}
-use Rattle.frames.specs.declared.Framed.{Framed}
+use Rattle.candidates.specs.Selection.{Chosen}
+use Rattle.frames.specs.Sent.{Framed}
 use Rattle.ledger.specs.Ledger.{refuses_punches}
 use Rattle.vocabulary.specs.declared.Settings.{Settings}
 use Rattle.vocabulary.specs.declared.StreamInput.{StreamInput}
@@ -127,15 +127,15 @@ module _ (c : Core) (h : Host) (p : promoted c.phase ≡ true) where
 
   -- ---- an input in an exchange
 
-  module _ (x : Running) (targets : ℕ) (full : Bool) where
-    heard_leaves : (y : Heard) → Leaves (replied c h x targets full y) true
+  module _ (x : Running) (full : Bool) where
+    heard_leaves : (y : Option Heard) → Leaves (replied c h x full y) true
     unfolding quiet_of decided_of in_exchange in_phase refused_of open_window punching_of
-    heard_leaves heard.Nothing = p
-    heard_leaves (heard.More n) = refl
-    heard_leaves heard.Failed = fail_leaves c h (reset_of x.conn x.stream)
-    heard_leaves heard.Connect = pick_leaves full (refused_of c LedgerFull) (open_window c h.at x targets) true p refl
+    heard_leaves None = p
+    heard_leaves (Some (heard.More n)) = refl
+    heard_leaves (Some heard.Failed) = fail_leaves c h (reset_of x.conn x.stream)
+    heard_leaves (Some (heard.Connect targets)) = pick_leaves full (refused_of c LedgerFull) (open_window c h.at x targets) true p refl
 
-    later_leaves : (y : Heard) (kind : StreamInput) → Leaves (later_input c h x y targets full kind) true
+    later_leaves : (y : Option Heard) (kind : StreamInput) → Leaves (later_input c h x y full kind) true
     later_leaves y i.Ready = quiet_leaves c true p
     later_leaves y i.Data = heard_leaves y
     later_leaves y i.RemoteWriteClosed = fail_leaves c h (reset_of x.conn x.stream)
@@ -146,17 +146,17 @@ module _ (c : Core) (h : Host) (p : promoted c.phase ≡ true) where
     first_leaves over pending =
         pick_leaves over _ _ true (fail_leaves c h (sending_of silence x.conn x.stream (Some (Connect c.connect)) true)) refl
 
-    timely_leaves : (kind : StreamInput) (pending : Bool) (y : Heard) (v : ConnectWrite)
-        → Leaves (timely_input c h x kind pending y targets full v) true
+    timely_leaves : (kind : StreamInput) (pending : Bool) (y : Option Heard) (v : ConnectWrite)
+        → Leaves (timely_input c h x kind pending y full v) true
     timely_leaves kind pending y Unsent = first_leaves (closing kind) pending
     timely_leaves kind pending y Held = later_leaves y kind
     timely_leaves kind pending y (Sent at) = later_leaves y kind
 
-    timed_leaves : (kind : StreamInput) (pending : Bool) (y : Heard) → Leaves (exchange_input c h x kind pending y targets full) true
+    timed_leaves : (kind : StreamInput) (pending : Bool) (y : Option Heard) → Leaves (exchange_input c h x kind pending y full) true
     unfolding exchange_input
     timed_leaves kind pending y = go (due_at c.budget h.at)
       where
-        go : (z : Option UpgradeStop) → Leaves (in_time c h x kind pending y targets full z) true
+        go : (z : Option UpgradeStop) → Leaves (in_time c h x kind pending y full z) true
         go None = timely_leaves kind pending y x.connect
         go (Some (ExchangeTimeout round ms)) = exchange_leaves x.conn x.stream
         go (Some (UpgradeTimeout ms)) = exchange_leaves x.conn x.stream
@@ -223,16 +223,16 @@ module _ (k : Begun) (g : UpgradeBudget) (m : Framed) (t : Chosen) (deadline rou
   tick_step h p stage (in_window closes q w x) = none_step (core p) (tick_punching (core p) h closes q) (window_leaves (core p) h refl closes q)
   tick_step h p stage (at_end v) = refl
 
-  input_step : (h : Host) (stream : StreamId) (kind : StreamInput) (pending : Bool) (y : Heard) (targets : ℕ) (full : Bool) (p : Phase)
+  input_step : (h : Host) (stream : StreamId) (kind : StreamInput) (pending : Bool) (y : Option Heard) (full : Bool) (p : Phase)
       (stage : Stage)
-      → Together k.settings g m t deadline rounds p stage → Leaves (input_at (core p) h stream kind pending y targets full p) (promoted p)
-  input_step h stream kind pending y targets full p stage (in_handshake end) = quiet_leaves (core p) true refl
-  input_step h stream kind pending y targets full p stage (in_exchange_lem conn on end count write x) =
+      → Together k.settings g m t deadline rounds p stage → Leaves (input_at (core p) h stream kind pending y full p) (promoted p)
+  input_step h stream kind pending y full p stage (in_handshake end) = quiet_leaves (core p) true refl
+  input_step h stream kind pending y full p stage (in_exchange_lem conn on end count write x) =
       pick_leaves (eqb on.0 stream.0) _ _ true
-      (timed_leaves (core p) h refl (record { conn = conn; stream = on; count = count; connect = write }) targets full kind pending y)
+      (timed_leaves (core p) h refl (record { conn = conn; stream = on; count = count; connect = write }) full kind pending y)
       (quiet_leaves (core p) true refl)
-  input_step h stream kind pending y targets full p stage (in_window closes q w x) = quiet_leaves (core p) true refl
-  input_step h stream kind pending y targets full p stage (at_end v) = quiet_leaves (core p) v refl
+  input_step h stream kind pending y full p stage (in_window closes q w x) = quiet_leaves (core p) true refl
+  input_step h stream kind pending y full p stage (at_end v) = quiet_leaves (core p) v refl
 
   wrote_step : (at : ℕ) (conn : ConnectionId) (stream : StreamId) (p : Phase) (stage : Stage) → Together k.settings g m t deadline rounds p stage
       → promoted (wrote_at (core p) at conn stream p).phase ≡ promoted p
@@ -280,7 +280,7 @@ call_step k p g m t b r (input l lent h own stream kind bytes pending) =
     (checked_input (core_of k p g m.len t.len) _ false
     (checked (core_of k p g m.len t.len) decided false
     (none_step (core_of k p g m.len t.len) decided
-    (input_step k g m t b.deadline b.rounds h stream kind pending _ _ (refuses_punches l k.source) p b.stage r))
+    (input_step k g m t b.deadline b.rounds h stream kind pending _ (refuses_punches l k.source) p b.stage r))
     (check_of p h.offer own))
     (ltb (length lent) 4098))
   where

@@ -17,8 +17,8 @@ use Rattle.schedule.specs.declared.BlastSchedule.{BlastSchedule}
 use Rattle.schedule.specs.declared.BlastSchedule.TheVariants.{Next, Over}
 use Rattle.schedule.specs.Schedule.{ahead, next_of}
 use Rattle.schedule.proofs.Instants.{instants_some}
-use Rattle.candidates.specs.declared.Chosen.{Chosen}
-use Rattle.frames.specs.declared.Framed.{Framed}
+use Rattle.candidates.specs.Selection.{Chosen}
+use Rattle.frames.specs.Sent.{Framed}
 use Rattle.vocabulary.specs.declared.Settings.{Settings}
 use Rattle.inbound.specs.declared.InboundCircuit.{InboundCircuit}
 use Rattle.circuit.specs.declared.state.Core.{Core}

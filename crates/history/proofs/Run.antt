@@ -14,9 +14,9 @@ use Rattle.ids.specs.declared.ConnectionId.{ConnectionId}
 use Rattle.wire.specs.Lists.{broken}
 use Rattle.refusal.specs.declared.Refusal.TheVariants.{ReplyBufferTooShort, HandshakeTooLate, BrokenList, OfferInUse}
 use Rattle.budget.specs.declared.UpgradeBudget.{UpgradeBudget}
-use Rattle.candidates.specs.declared.Chosen.{Chosen}
+use Rattle.candidates.specs.Selection.{Chosen}
 use Rattle.candidates.specs.Selection as selection
-use Rattle.frames.specs.declared.Framed.{Framed}
+use Rattle.frames.specs.Sent.{Framed}
 use Rattle.frames.specs.Sent as frame
 use Rattle.ledger.specs.Ledger.{refuses_punches}
 use Rattle.vocabulary.specs.declared.Settings.{Settings}

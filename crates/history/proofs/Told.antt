@@ -21,8 +21,8 @@ use Rattle.budget.specs.Budget as budget
 use Rattle.schedule.specs.declared.BlastSchedule.{BlastSchedule}
 use Rattle.schedule.specs.Schedule.{due_of}
 use Rattle.schedule.proofs.Readings.{tick_times, below_fits}
-use Rattle.candidates.specs.declared.Chosen.{Chosen}
-use Rattle.frames.specs.declared.Framed.{Framed}
+use Rattle.candidates.specs.Selection.{Chosen}
+use Rattle.frames.specs.Sent.{Framed}
 use Rattle.ledger.specs.Ledger.{PathLedger, refuses_punches, expect_punches}
 use Rattle.circuit.specs.declared.state.Core.{Core}
 use Rattle.circuit.specs.declared.state.Phase.{Phase}
@@ -35,7 +35,6 @@ use Rattle.vocabulary.specs.declared.Effect.TheVariants.{Path, Burst, Upgrade, C
 use Rattle.circuit.specs.declared.decision.Decision.{Decision}
 use Rattle.inbound.specs.declared.Answer.{Answer}
 use Rattle.circuit.specs.declared.decision.Fate.TheVariants.{Kept, Removed, Opened}
-use Rattle.circuit.specs.declared.decision.Message.TheVariants as message
 use Rattle.circuit.specs.Decisions.{silence, event_of, reset_of, burst_of, decided_of, quiet_of, refused_of}
 use Rattle.carried.specs.Carried.{message_of, targets_after, ledger_after}
 use Rattle.carried.specs.Carried as carried

@@ -18,11 +18,11 @@ use Rattle.budget.specs.Budget.{due_at}
 use Rattle.schedule.specs.Instants.{start_of, half_of}
 use Rattle.schedule.specs.Schedule.{opened_of}
 use Rattle.schedule.proofs.Readings.{first_with_reply}
-use Rattle.candidates.specs.declared.Chosen.{Chosen}
+use Rattle.candidates.specs.Selection.{Chosen}
 use Rattle.candidates.specs.Selection.{selected}
 use Rattle.message.specs.Encoding.{address_fields}
 use Rattle.wire.specs.Varint.{groups}
-use Rattle.frames.specs.declared.Framed.{Framed}
+use Rattle.frames.specs.Sent.{Framed}
 use Rattle.frames.specs.Sent.{sync_frame}
 use Rattle.ledger.specs.Ledger.{PathLedger, refuses_punches}
 use Rattle.vocabulary.specs.declared.Settings.{Settings}
@@ -153,7 +153,7 @@ module _ (k : Begun) (g : UpgradeBudget) (m : Framed) (t : Chosen) (l : PathLedg
 
   brought_follows : h.at < end → (y : Brought)
       → Follows k.source l
-      (made m t own (got y).targets (replied c h running (got y).targets.len (refuses_punches l k.source) (got y).heard))
+      (made m t own (got y).targets (replied c h running (refuses_punches l k.source) (Some (got y).heard)))
       (replied_tells k.settings (whose k) h b ask y)
   unfolding peeked_of
   brought_follows n (unfinished j) = quiet_follows k.source l m t own _ _
@@ -181,7 +181,7 @@ module _ (k : Begun) (g : UpgradeBudget) (m : Framed) (t : Chosen) (l : PathLedg
     -- ---- CONNECT has gone out
 
     later_follows : h.at < end → (kind : StreamInput)
-        → Follows k.source l (made m t own peek.targets (later_input c h running peek.heard peek.targets.len full kind))
+        → Follows k.source l (made m t own peek.targets (later_input c h running (Some peek.heard) full kind))
         (later_tells k.settings (whose k) h buffer kind bytes b ask)
     later_follows n i.Ready = quiet_follows k.source l m t own peek.targets c
     later_follows n i.Data = rw (heard_same bytes buffer count) (brought_follows n (brought_by bytes buffer count))
@@ -217,14 +217,14 @@ module _ (k : Begun) (g : UpgradeBudget) (m : Framed) (t : Chosen) (l : PathLedg
     -- ---- in time or not
 
     to_follows : h.at < end → (kind : StreamInput) (pending : Bool) (v : ConnectWrite)
-        → Follows k.source l (made m t own peek.targets (timely_input c h running kind pending peek.heard peek.targets.len full v))
+        → Follows k.source l (made m t own peek.targets (timely_input c h running kind pending (Some peek.heard) full v))
         (timely_tells k.settings (whose k) h buffer kind bytes b ask v)
     to_follows n kind pending Unsent = first_follows kind pending
     to_follows n kind pending Held = later_follows n kind
     to_follows n kind pending (Sent at) = later_follows n kind
 
     pub timed_follows : (kind : StreamInput) (pending : Bool)
-        → Follows k.source l (made m t own peek.targets (exchange_input c h running kind pending peek.heard peek.targets.len full))
+        → Follows k.source l (made m t own peek.targets (exchange_input c h running kind pending (Some peek.heard) full))
         (pick (ltb h.at end) (timely_tells k.settings (whose k) h buffer kind bytes b ask write)
         (tick_tells k.settings (whose k) h b (asking ask)))
     unfolding exchange_input
@@ -236,14 +236,14 @@ module _ (k : Begun) (g : UpgradeBudget) (m : Framed) (t : Chosen) (l : PathLedg
 
         go : (v : Bool) → ltb h.at end ≡ v
             → Follows k.source l
-            (made m t own peek.targets (in_time c h running kind pending peek.heard peek.targets.len full (due_at g h.at)))
+            (made m t own peek.targets (in_time c h running kind pending (Some peek.heard) full (due_at g h.at)))
             (pick v (timely_tells k.settings (whose k) h buffer kind bytes b ask write) (tick_tells k.settings (whose k) h b (asking ask)))
         go true e =
             let n : h.at < end = ltb-true h.at end e in
             rw (runs_on k.settings g deadline rounds end h.at x n) (to_follows n kind pending write)
         go false e =
             runs_out k.settings g deadline rounds end h.at x
-            (λ y. Follows k.source l (made m t own peek.targets (in_time c h running kind pending peek.heard peek.targets.len full y))
+            (λ y. Follows k.source l (made m t own peek.targets (in_time c h running kind pending (Some peek.heard) full y))
             (tick_tells k.settings (whose k) h b (asking ask)))
             (λ round ms. tick) (λ ms. tick) (ltb-false h.at end e)
 
@@ -277,7 +277,7 @@ module _ (k : Begun) (g : UpgradeBudget) (m : Framed) (t : Chosen) (l : PathLedg
       go : (v : Bool)
           → Follows k.source l
           (made m t own peek.targets
-          (pick v (exchange_input (core p) h run kind pending peek.heard peek.targets.len (refuses_punches l k.source))
+          (pick v (exchange_input (core p) h run kind pending (Some peek.heard) (refuses_punches l k.source))
           (quiet_of (core p))))
           (pick v
           (pick (ltb h.at end) (timely_tells k.settings (whose k) h buffer kind bytes b ask write)

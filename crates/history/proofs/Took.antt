@@ -9,8 +9,8 @@ use Rattle.prelude.specs.Choice.{pick, both}
 use Rattle.ids.specs.declared.PeerId.{PeerId}
 use Rattle.ids.specs.declared.ConnectionId.{ConnectionId}
 use Rattle.budget.specs.declared.UpgradeBudget.{UpgradeBudget}
-use Rattle.candidates.specs.declared.Chosen.{Chosen}
-use Rattle.frames.specs.declared.Framed.{Framed}
+use Rattle.candidates.specs.Selection.{Chosen}
+use Rattle.frames.specs.Sent.{Framed}
 use Rattle.ledger.specs.Ledger.{refuses_punches}
 use Rattle.circuit.specs.declared.state.Core.{Core}
 use Rattle.circuit.specs.declared.state.Phase.{Phase}

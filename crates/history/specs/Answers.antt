@@ -9,7 +9,7 @@ use Rattle.wire.specs.Lists.{entries, broken}
 use Rattle.message.specs.declared.Kind.TheVariants.{Connect}
 use Rattle.message.specs.Encoding.{frame_bytes}
 use Rattle.candidates.specs.Selection.{own}
-use Rattle.frames.specs.declared.Framed.{Framed}
+use Rattle.frames.specs.Sent.{Framed}
 use Rattle.ledger.specs.Ledger.{PathLedger, refuses_punches, end_punches, expect_punches}
 use Rattle.vocabulary.specs.declared.Settings.{Settings}
 use Rattle.inbound.specs.declared.InboundCircuit.{InboundCircuit}

@@ -8,7 +8,6 @@ use Rattle.schedule.specs.Instants.{instants}
 use Rattle.schedule.specs.Readings.{counted}
 use Rattle.path.specs.declared.Claim.{Claim}
 use Rattle.path.specs.declared.Claim.TheVariants.{Circuit}
-use Rattle.path.specs.declared.Claim.TheVariants as claim
 use Rattle.path.specs.declared.Owner.TheVariants.{Inbound}
 use Rattle.vocabulary.specs.declared.Settings.{Settings}
 use Rattle.inbound.specs.declared.InboundCircuit.{InboundCircuit}

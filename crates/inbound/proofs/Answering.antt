@@ -11,7 +11,7 @@ use Rattle.prelude.specs.Choice.{pick}
 use Rattle.ids.specs.declared.ConnectionId.{ConnectionId}
 use Rattle.ids.specs.declared.PeerId.{PeerId}
 use Rattle.refusal.specs.declared.Refusal.TheVariants.{HandshakeTooLate}
-use Rattle.frames.specs.declared.Framed.{Framed}
+use Rattle.frames.specs.Sent.{Framed}
 use Rattle.vocabulary.specs.declared.Settings.{Settings}
 use Rattle.time.specs.Time.{last}
 use Rattle.circuit.specs.declared.decision.Message.{Message}

@@ -3,7 +3,7 @@ use Rattle.std.specs.Prelude.{ℕ, Bool, List, []}
 use Rattle.ids.specs.declared.ConnectionId.{ConnectionId}
 use Rattle.ids.specs.declared.StreamId.{StreamId}
 use Rattle.ids.specs.declared.PeerId.{PeerId}
-use Rattle.frames.specs.declared.Framed.{Framed}
+use Rattle.frames.specs.Sent.{Framed}
 use Rattle.frames.specs.Sent as frame
 use Rattle.ledger.specs.Ledger.{PathLedger, refuses_punches}
 use Rattle.vocabulary.specs.declared.Settings.{Settings}

@@ -6,15 +6,12 @@ use Prim.Native.Nat.{ℕ, zero, suc, ◌+◌, ◌-◌, ◌≤◌}
 use native.Mathlib.Omega.{arith}
 use lib.ListN.{length, take, drop, set, length-append, take-append-drop}
 use lib.Seq.{sets, take-take, length-take-le}
-use Rattle.std.specs.Prelude.{Err, Ok, Result, ℕ}
+use Rattle.std.specs.Prelude.{None, Option, Some, ℕ}
 use Rattle.wire.specs.Frame.{max_frame_size}
 use Rattle.wire.specs.declared.Frame.{Frame}
 use Rattle.wire.proofs.Frames.{Within}
 use Rattle.wire.proofs.Stores.{sets_out, sets_append, sets_front}
 use Rattle.message.specs.Message.{decode_of, decode_into}
-use Rattle.message.specs.declared.Kind.{Kind}
-use Rattle.message.specs.declared.Kind.TheVariants.{Connect, Sync}
-use Rattle.refusal.specs.declared.Refusal.{Refusal}
 use Rattle.frames.specs.Gathering.{gathered}
 use Rattle.initiator.specs.Replies.{replied, message_at, reply_of, reply_into}
 use Rattle.frames.specs.declared.Gathered.{Gathered}
@@ -80,25 +77,14 @@ message_copied z b xs n start len h g =
     front_sets m (sets z 0 b) n xs ∙ ap (λ (l : List ℕ). sets l n xs) (copied_front m z b h g) ∙ sym (front_sets m b n xs) in
     sym (message_front start len (sets (sets z 0 b) n xs)) ∙ ap (message_at start len) e ∙ message_front start len (sets b n xs)
 
--- ---- what was decoded
-
-pub is_connect : {d : Result (Kind × ℕ) Refusal} {k : Kind} {n : ℕ} {x : Result (Kind × ℕ) Refusal} → d ≡ x → d ≡ Ok (k, n) → k ≡ Connect → r.Connect n ≡ replied x
-is_connect e g h = rw (← e, g, h)
-
-pub is_sync : {d : Result (Kind × ℕ) Refusal} {k : Kind} {n : ℕ} {x : Result (Kind × ℕ) Refusal} → d ≡ x → d ≡ Ok (k, n) → k ≡ Sync → r.Failed ≡ replied x
-is_sync e g h = rw (← e, g, h)
-
-pub is_refused : {d : Result (Kind × ℕ) Refusal} {w : Refusal} {x : Result (Kind × ℕ) Refusal} → d ≡ x → d ≡ Err w → r.Failed ≡ replied x
-is_refused e g = rw (← e, g)
-
 -- ---- what was gathered
 
 module _ (xs b : List ℕ) (n : ℕ) (o : List ℕ) {g : Gathered} (e : g ≡ gathered xs b n) where
-  pub reply_more : g.frame ≡ f.More → (r.More g.count ≡ reply_of xs b n (length o)) × (o ≡ reply_into xs b n o)
+  pub reply_more : g.frame ≡ f.More → (Some (r.More g.count) ≡ reply_of xs b n (length o)) × (o ≡ reply_into xs b n o)
   unfolding reply_of reply_into
   reply_more h = let q : (gathered xs b n).frame ≡ f.More = ap (λ (x : Gathered). x.frame) (sym e) ∙ h in (rw (q, e), rw q)
 
-  pub reply_broken : g.frame ≡ f.Broken → (r.Failed ≡ reply_of xs b n (length o)) × (o ≡ reply_into xs b n o)
+  pub reply_broken : g.frame ≡ f.Broken → (None ≡ reply_of xs b n (length o)) × (o ≡ reply_into xs b n o)
   unfolding reply_of reply_into
   reply_broken h = let q : (gathered xs b n).frame ≡ f.Broken = ap (λ (x : Gathered). x.frame) (sym e) ∙ h in (rw q, rw q)
 
@@ -109,14 +95,14 @@ module _ (xs b : List ℕ) (n : ℕ) (o : List ℕ) {g : Gathered} (e : g ≡ ga
     pub whole_inside : (start + len ≤ max_frame_size) × (start + len ≤ length b)
     whole_inside = let w = subst (λ (x : Frame). Within (length b) x) the_frame (gathers_front xs b n).whole in omega arith
 
-    pub reply_whole : {a : Reply} {t : List ℕ} → a ≡ replied (decode_of (message_at start len (sets b n (take (g.count - n) xs))) (length o))
+    pub reply_whole : {a : Option Reply} {t : List ℕ} → a ≡ replied (decode_of (message_at start len (sets b n (take (g.count - n) xs))) (length o))
         → t ≡ decode_into (message_at start len (sets b n (take (g.count - n) xs))) o → (a ≡ reply_of xs b n (length o)) × (t ≡ reply_into xs b n o)
     unfolding reply_of reply_into
     reply_whole i j = (i ∙ rw (the_frame, stored_of xs b n e), j ∙ rw (the_frame, stored_of xs b n e))
 
 -- ---- the copy read: z is blank, y holds the buffer, and w the new bytes too
 pub read_copy : (z b xs : List ℕ) (n start len : ℕ) (o : List ℕ) {y w : List ℕ} → length z ≡ max_frame_size → start + len ≤ max_frame_size → start + len ≤ length b
-    → y ≡ sets z 0 b → w ≡ sets y n xs → {a : Reply} {t : List ℕ} → a ≡ replied (decode_of (take (start + len - start) (drop start w)) (length o))
+    → y ≡ sets z 0 b → w ≡ sets y n xs → {a : Option Reply} {t : List ℕ} → a ≡ replied (decode_of (take (start + len - start) (drop start w)) (length o))
     → t ≡ decode_into (take (start + len - start) (drop start w)) o
     → (a ≡ replied (decode_of (message_at start len (sets b n xs)) (length o))) × (t ≡ decode_into (message_at start len (sets b n xs)) o)
 read_copy z b xs n start len o {y} {w} l h g p q i j =

@@ -1,7 +1,7 @@
 // The initiator of an exchange (lib.rs): the reply that is gathered in the lent buffer, read before it is stored.
 #![tactic(auto)]
 
-ghost use Rattle.std.specs.Prelude.{◌≡◌, ◌+◌, ◌≤◌, length, replicate};
+ghost use Rattle.std.specs.Prelude.{◌≡◌, ◌+◌, ◌≤◌, length};
 ghost use Rattle.std.proofs.lemmas.List.Edits.{sets};
 ghost use Rattle.message.specs.Message.{decode_of, decode_into};
 ghost use Rattle.wire.specs.Frame.{max_frame_size};
@@ -10,33 +10,21 @@ ghost use Rattle.initiator.specs.Replies.{replied, message_at, reply_of, reply_i
 use message::Kind;
 use wire::{Frame, MAX_FRAME_SIZE};
 
-// What the gathered bytes answer: more are needed, a CONNECT with a list of size bytes, or anything else.
+// What the gathered bytes answer: more are needed, or a CONNECT with a list of size bytes.
 #[derive(Clone, Copy)]
 pub enum Reply {
     More { count: usize },
     Connect { size: usize },
-    Failed,
 }
 
-type ReplyBytes = [u8; MAX_FRAME_SIZE];
-
-fn blank_frame() -> ReplyBytes
-    ensures { result ≡ replicate max_frame_size 0 }
-{
-    [0u8; MAX_FRAME_SIZE]
-}
-
-// The message of a whole frame, its addresses as a list in out.
-fn read_message(message: &[u8], out: &mut [u8]) -> Reply
+// The message of a whole frame, its addresses as a list in out; none where it is no CONNECT.
+fn read_message(message: &[u8], out: &mut [u8]) -> Option<Reply>
     ensures answer { result ≡ replied (decode_of message.now (length out.old)) }
     ensures stored { out.new ≡ decode_into message.now out.old }
 {
     match message::decode(message, out) {
-        Ok((kind, size)) => match kind {
-            Kind::Connect => Reply::Connect { size: size },
-            Kind::Sync => Reply::Failed,
-        },
-        Err(_) => Reply::Failed,
+        Ok((Kind::Connect, size)) => Some(Reply::Connect { size }),
+        _ => None,
     }
 }
 
@@ -48,20 +36,21 @@ fn read_ahead(
     start: usize,
     len: usize,
     out: &mut [u8],
-) -> Reply
+) -> Option<Reply>
     requires { (start + len ≤ max_frame_size) × (start + len ≤ length buffer.now) }
     ensures answer { result ≡ replied (decode_of (message_at start len (sets buffer.now count bytes.now)) (length out.old)) }
     ensures stored { out.new ≡ decode_into (message_at start len (sets buffer.now count bytes.now)) out.old }
 {
-    let mut frame = blank_frame();
+    let mut frame = [0u8; MAX_FRAME_SIZE];
     wire::put_bytes(buffer, &mut frame, 0);
     wire::put_bytes(bytes, &mut frame, count);
     let end = start + len;
     read_message(&frame[start..end], out)
 }
 
-// What gathering an input would answer, read to the end, with the buffer left as it is: the circuit can still turn the call back.
-pub fn peek_reply(input: &[u8], buffer: &[u8], count: usize, out: &mut [u8]) -> Reply
+// What gathering an input would answer, read to the end, with the buffer left as it is: the circuit can still turn the call back. None
+// where the exchange has failed.
+pub fn peek_reply(input: &[u8], buffer: &[u8], count: usize, out: &mut [u8]) -> Option<Reply>
     ensures answer { result ≡ reply_of input.now buffer.now count (length out.old) }
     ensures stored { out.new ≡ reply_into input.now buffer.now count out.old }
 {
@@ -69,8 +58,8 @@ pub fn peek_reply(input: &[u8], buffer: &[u8], count: usize, out: &mut [u8]) -> 
     let end = g.count;
     let f = g.frame;
     match f {
-        Frame::More => Reply::More { count: end },
-        Frame::Broken => Reply::Failed,
+        Frame::More => Some(Reply::More { count: end }),
+        Frame::Broken => None,
         Frame::Whole { start, len } => {
             let n = end - count;
             read_ahead(&input[..n], buffer, count, start, len, out)

@@ -69,43 +69,43 @@ opening c x targets w =
 unfoldable pub open_window : Core → ℕ → Running → ℕ → Decision
 open_window c at x targets = opening c x targets (window_of c.budget c.settings.interval x.connect at)
 
--- what was heard of the reply; so many bytes of targets were chosen from it, and a ledger window for the source may have no room
-abbrev pub replied : Core → Host → Running → ℕ → Bool → Heard → Decision
-replied c h x targets full heard.Nothing = quiet_of c
-replied c h x targets full (heard.More n) = quiet_of (in_exchange c x n x.connect)
-replied c h x targets full heard.Failed = fail_round c h (reset_of x.conn x.stream)
-replied c h x targets full heard.Connect = pick full (refused_of c LedgerFull) (open_window c h.at x targets)
+-- what was heard of the reply; a ledger window for the source may have no room
+abbrev pub replied : Core → Host → Running → Bool → Option Heard → Decision
+replied c h x full None = quiet_of c
+replied c h x full (Some (heard.More n)) = quiet_of (in_exchange c x n x.connect)
+replied c h x full (Some heard.Failed) = fail_round c h (reset_of x.conn x.stream)
+replied c h x full (Some (heard.Connect targets)) = pick full (refused_of c LedgerFull) (open_window c h.at x targets)
 
 -- CONNECT has gone out
-abbrev pub later_input : Core → Host → Running → Heard → ℕ → Bool → StreamInput → Decision
-later_input c h x heard targets full i.Ready = quiet_of c
-later_input c h x heard targets full i.Data = replied c h x targets full heard
-later_input c h x heard targets full i.RemoteWriteClosed = fail_round c h (reset_of x.conn x.stream)
-later_input c h x heard targets full i.Closed = fail_round c h (reset_of x.conn x.stream)
+abbrev pub later_input : Core → Host → Running → Option Heard → Bool → StreamInput → Decision
+later_input c h x heard full i.Ready = quiet_of c
+later_input c h x heard full i.Data = replied c h x full heard
+later_input c h x heard full i.RemoteWriteClosed = fail_round c h (reset_of x.conn x.stream)
+later_input c h x heard full i.Closed = fail_round c h (reset_of x.conn x.stream)
 
-abbrev pub timely_input : Core → Host → Running → StreamInput → Bool → Heard → ℕ → Bool → ConnectWrite → Decision
-timely_input c h x kind pending heard targets full Unsent = first_input c h x (closing kind) pending
-timely_input c h x kind pending heard targets full Held = later_input c h x heard targets full kind
-timely_input c h x kind pending heard targets full (Sent at) = later_input c h x heard targets full kind
+abbrev pub timely_input : Core → Host → Running → StreamInput → Bool → Option Heard → Bool → ConnectWrite → Decision
+timely_input c h x kind pending heard full Unsent = first_input c h x (closing kind) pending
+timely_input c h x kind pending heard full Held = later_input c h x heard full kind
+timely_input c h x kind pending heard full (Sent at) = later_input c h x heard full kind
 
 -- at or past the exchange's end, or the deadline, it does the circuit's tick
-abbrev pub in_time : Core → Host → Running → StreamInput → Bool → Heard → ℕ → Bool → Option UpgradeStop → Decision
-in_time c h x kind pending heard targets full None = timely_input c h x kind pending heard targets full x.connect
-in_time c h x kind pending heard targets full (Some (ExchangeTimeout round ms)) = tick_exchange c h x.conn x.stream
-in_time c h x kind pending heard targets full (Some (UpgradeTimeout ms)) = tick_exchange c h x.conn x.stream
+abbrev pub in_time : Core → Host → Running → StreamInput → Bool → Option Heard → Bool → Option UpgradeStop → Decision
+in_time c h x kind pending heard full None = timely_input c h x kind pending heard full x.connect
+in_time c h x kind pending heard full (Some (ExchangeTimeout round ms)) = tick_exchange c h x.conn x.stream
+in_time c h x kind pending heard full (Some (UpgradeTimeout ms)) = tick_exchange c h x.conn x.stream
 
-unfoldable pub exchange_input : Core → Host → Running → StreamInput → Bool → Heard → ℕ → Bool → Decision
-exchange_input c h x kind pending heard targets full = in_time c h x kind pending heard targets full (due_at c.budget h.at)
+unfoldable pub exchange_input : Core → Host → Running → StreamInput → Bool → Option Heard → Bool → Decision
+exchange_input c h x kind pending heard full = in_time c h x kind pending heard full (due_at c.budget h.at)
 
 -- an input does nothing but on the exchange's stream
-abbrev pub input_at : Core → Host → StreamId → StreamInput → Bool → Heard → ℕ → Bool → Phase → Decision
-input_at c h stream kind pending heard targets full (Handshaking deadline) = quiet_of c
-input_at c h stream kind pending heard targets full (Exchange conn on count write) =
+abbrev pub input_at : Core → Host → StreamId → StreamInput → Bool → Option Heard → Bool → Phase → Decision
+input_at c h stream kind pending heard full (Handshaking deadline) = quiet_of c
+input_at c h stream kind pending heard full (Exchange conn on count write) =
     pick (eqb on.0 stream.0)
-    (exchange_input c h (record { conn = conn; stream = on; count = count; connect = write }) kind pending heard targets full)
+    (exchange_input c h (record { conn = conn; stream = on; count = count; connect = write }) kind pending heard full)
     (quiet_of c)
-input_at c h stream kind pending heard targets full (Punching until q) = quiet_of c
-input_at c h stream kind pending heard targets full (Done promoted) = quiet_of c
+input_at c h stream kind pending heard full (Punching until q) = quiet_of c
+input_at c h stream kind pending heard full (Done promoted) = quiet_of c
 
 -- ---- whether an input's bytes are the reply's: data on the exchange's stream, in time, once CONNECT has gone out
 

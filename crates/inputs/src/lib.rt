@@ -13,14 +13,13 @@ use schedule::{BlastSchedule, NewlyDue};
 use upgrade::tick;
 use vocabulary::{Host, StreamInput};
 
-// What an input's bytes bring of the reply: nothing, where they are not the reply's; so many frame bytes and no whole frame; a failure; or
-// a CONNECT.
+// What an input's bytes bring of the reply: so many frame bytes and no whole frame; a failure; or a CONNECT, with so many bytes of targets
+// chosen from its addresses.
 #[derive(Clone, Copy)]
 pub enum Heard {
-    Nothing,
     More(usize),
     Failed,
-    Connect,
+    Connect { targets: usize },
 }
 
 #[tactic(auto, unfolding(crate::specs::Inputs::closing))]
@@ -124,16 +123,16 @@ fn open_window(c: Core, at: u64, x: Running, targets: usize) -> Decision
     Decision::decided(d, Fate::Opened(c.budget.deadline), said, None)
 }
 
-// The reply, as far as it was heard; so many bytes of targets were chosen from it.
-fn reply(c: Core, host: Host, x: Running, heard: Heard, targets: usize, full: bool) -> Decision
-    ensures { result ≡ replied c host x targets full heard }
+// The reply, as far as it was heard.
+fn reply(c: Core, host: Host, x: Running, heard: Option<Heard>, full: bool) -> Decision
+    ensures { result ≡ replied c host x full heard }
 {
     match heard {
-        Heard::Nothing => Decision::quiet(c),
-        Heard::More(n) => Decision::quiet(in_exchange(c, x, n, x.connect)),
-        Heard::Failed => rounds::fail_round(c, host, Said::reset(x.conn, x.stream)),
-        Heard::Connect if full => Decision::refused(c, Refusal::LedgerFull),
-        Heard::Connect => open_window(c, host.at, x, targets),
+        None => Decision::quiet(c),
+        Some(Heard::More(n)) => Decision::quiet(in_exchange(c, x, n, x.connect)),
+        Some(Heard::Failed) => rounds::fail_round(c, host, Said::reset(x.conn, x.stream)),
+        Some(Heard::Connect { .. }) if full => Decision::refused(c, Refusal::LedgerFull),
+        Some(Heard::Connect { targets }) => open_window(c, host.at, x, targets),
     }
 }
 
@@ -143,15 +142,14 @@ fn later_input(
     host: Host,
     x: Running,
     input: StreamInput,
-    heard: Heard,
-    targets: usize,
+    heard: Option<Heard>,
     full: bool,
 ) -> Decision
-    ensures { result ≡ later_input c host x heard targets full input }
+    ensures { result ≡ later_input c host x heard full input }
 {
     match input {
         StreamInput::Ready => Decision::quiet(c),
-        StreamInput::Data => reply(c, host, x, heard, targets, full),
+        StreamInput::Data => reply(c, host, x, heard, full),
         StreamInput::RemoteWriteClosed | StreamInput::Closed => {
             rounds::fail_round(c, host, Said::reset(x.conn, x.stream))
         }
@@ -165,15 +163,14 @@ fn timely_input(
     x: Running,
     input: StreamInput,
     pending: bool,
-    heard: Heard,
-    targets: usize,
+    heard: Option<Heard>,
     full: bool,
 ) -> Decision
-    ensures { result ≡ timely_input c host x input pending heard targets full x.connect }
+    ensures { result ≡ timely_input c host x input pending heard full x.connect }
 {
     match x.connect {
         ConnectWrite::Unsent => first_input(c, host, x, is_closing(input), pending),
-        _ => later_input(c, host, x, input, heard, targets, full),
+        _ => later_input(c, host, x, input, heard, full),
     }
 }
 
@@ -185,31 +182,29 @@ fn exchange_input(
     x: Running,
     input: StreamInput,
     pending: bool,
-    heard: Heard,
-    targets: usize,
+    heard: Option<Heard>,
     full: bool,
 ) -> Decision
-    ensures { result ≡ exchange_input c host x input pending heard targets full }
+    ensures { result ≡ exchange_input c host x input pending heard full }
 {
     match c.budget.due(host.at) {
-        None => timely_input(c, host, x, input, pending, heard, targets, full),
+        None => timely_input(c, host, x, input, pending, heard, full),
         Some(_) => tick::tick_exchange(c, host, x.conn, x.stream),
     }
 }
 
-// An input on any stream. `heard` is what its bytes bring of the reply, `targets` the bytes of the addresses chosen from it, and `full`
-// says that the source has no ledger window and there is no room for one.
+// An input on any stream. `heard` is what its bytes bring of the reply, nothing where they are not the reply's, and `full` says that the
+// source has no ledger window and there is no room for one.
 pub fn input(
     c: Core,
     host: Host,
     stream: StreamId,
     input: StreamInput,
     pending: bool,
-    heard: Heard,
-    targets: usize,
+    heard: Option<Heard>,
     full: bool,
 ) -> Decision
-    ensures { result ≡ input_at c host stream input pending heard targets full c.phase }
+    ensures { result ≡ input_at c host stream input pending heard full c.phase }
 {
     match c.phase {
         Phase::Exchange {
@@ -224,7 +219,7 @@ pub fn input(
                 count,
                 connect,
             };
-            exchange_input(c, host, x, input, pending, heard, targets, full)
+            exchange_input(c, host, x, input, pending, heard, full)
         }
         _ => Decision::quiet(c),
     }

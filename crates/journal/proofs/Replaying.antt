@@ -13,7 +13,7 @@ use Rattle.text.proofs.Printing.{laid_none, fits}
 use Rattle.refusal.specs.declared.Refusal.TheVariants.{UnknownLine}
 use Rattle.wire.specs.Frame.{max_frame_size}
 use Rattle.line_program.specs.declared.Reading.{Reading}
-use Rattle.line_program.specs.Reads.{left, NextLine}
+use Rattle.line_program.specs.Reads.{left, NextLine, has_feed, has_failed}
 use Rattle.journal_prints.specs.Room.{room, is_refused}
 use Rattle.journal_prints.proofs.Room.{short}
 use Rattle.lines.specs.Lines.{longest}
@@ -64,13 +64,13 @@ module _ (reply out : List ℕ) (zero : reply ≡ replicate max_frame_size 0) (h
 
   -- what the buffer says of the first line
   abbrev said : (Option Settings)
-  said = first_of (take r.used line') r.ended
+  said = first_of (take r.used line') (has_feed r.end)
 
   abbrev l : Line
-  l = (x.read.text, r.ended)
+  l = (x.read.text, has_feed r.end)
 
   -- reading failed in the first line
-  pub unread_first : r.failed ≡ true → Replayed reply out block lent reply out (record { reading = r; waiting = 0; written = true })
+  pub unread_first : has_failed r.end ≡ true → Replayed reply out block lent reply out (record { reading = r; waiting = 0; written = true })
   unfolding bytes_of cut replayed
   unread_first f =
       record {
@@ -94,17 +94,17 @@ module _ (reply out : List ℕ) (zero : reply ≡ replicate max_frame_size 0) (h
       }
 
   -- a first line that is not good
-  module _ (f : r.failed ≡ false) (g : is_good said ≡ false) {out' : List ℕ} {q : ℕ}
+  module _ (f : has_failed r.end ≡ false) (g : is_good said ≡ false) {out' : List ℕ} {q : ℕ}
       (p : out' ≡ printed out 0 (opening_text said)) (b : q ≡ behind out 0 (opening_text said)) where
-    made : (ls : List Line) (u : List ℕ) → 0 ≡ length (behind_first ls) → said ≡ first_in ls → unread r.failed ls ≡ false
+    made : (ls : List Line) (u : List ℕ) → 0 ≡ length (behind_first ls) → said ≡ first_in ls → unread (has_failed r.end) ls ≡ false
         → x.read.brought ≡ bytes_of ls ++ (u ++ rest) → lines_of (bytes_of ls) ≡ ls
         → (length (bytes_of ls) < endless → text_of (lines_of x.read.brought) ≡ opening_text (first_in ls))
         → Replayed reply out block lent reply out' (record { reading = r; waiting = q; written = true })
     unfolding journal_text
     made ls u only same v whole cutting whole-text =
         let n : is_good (first_in ls) ≡ false = ap is_good (sym same) ∙ g in
-        let shown : put (replayed r.failed reply out ls []) ≡ opening_text (first_in ls) =
-        ap put (bad_state reply out ls r.failed v n) ∙ refusing (first_in ls) n out ho
+        let shown : put (replayed (has_failed r.end) reply out ls []) ≡ opening_text (first_in ls) =
+        ap put (bad_state reply out ls (has_failed r.end) v n) ∙ refusing (first_in ls) n out ho
         in
         record {
           brought = x.read.brought;
@@ -115,16 +115,16 @@ module _ (reply out : List ℕ) (zero : reply ≡ replicate max_frame_size 0) (h
           whole = whole;
           cut = cutting;
           numbers = state_of (opened (first_in ls));
-          journals = blank (first_in ls) ∙ sym (ap (λ (z : State). z.journal) (bad_state reply out ls r.failed v n));
-          replies = sym (ap (λ (z : State). z.reply) (bad_state reply out ls r.failed v n));
+          journals = blank (first_in ls) ∙ sym (ap (λ (z : State). z.journal) (bad_state reply out ls (has_failed r.end) v n));
+          replies = sym (ap (λ (z : State). z.reply) (bad_state reply out ls (has_failed r.end) v n));
           prints =
               p
               ∙ ap (λ (z : Option Settings). printed out 0 (opening_text z)) same
-              ∙ sym (ap (λ (z : State). z.out) (bad_state reply out ls r.failed v n));
+              ∙ sym (ap (λ (z : State). z.out) (bad_state reply out ls (has_failed r.end) v n));
           waits =
               b
               ∙ ap (λ (z : Option Settings). behind out 0 (opening_text z)) same
-              ∙ sym (ap (λ (z : State). z.waiting) (bad_state reply out ls r.failed v n));
+              ∙ sym (ap (λ (z : State). z.waiting) (bad_state reply out ls (has_failed r.end) v n));
           text = shown ∙ sym (ap (λ (t : Bool). pick t [] (text_of ls)) v ∙ bad_text ls n);
           stopped = λ _ _ _ good. apart (sym good ∙ n);
           unwritten = λ v _. apart v;
@@ -140,13 +140,13 @@ module _ (reply out : List ℕ) (zero : reply ≡ replicate max_frame_size 0) (h
         made (l ∷ []) [] refl (same_first x hl) refl (more_whole [] x [] [] refl) cutting
         (λ n. ap text_of (h n) ∙ bad_text (l ∷ others) (ap is_good (sym (same_first x hl)) ∙ g))
 
-    ended : r.ended ≡ true → Replayed reply out block lent reply out' (record { reading = r; waiting = q; written = true })
+    ended : has_feed r.end ≡ true → Replayed reply out block lent reply out' (record { reading = r; waiting = q; written = true })
     unfolding bytes_of
     ended e =
         only (all_cut (more_ended [] x none_ended e)) (lines_of rest)
         (λ _. ap lines_of (more_whole [] x [] [] refl) ∙ more_ended [] x none_ended e rest)
 
-    module _ (e : r.ended ≡ false) where
+    module _ (e : has_feed r.end ≡ false) where
       last : lines_of (bytes_of (l ∷ [])) ≡ l ∷ [] → Replayed reply out block lent reply out' (record { reading = r; waiting = q; written = true })
       unfolding bytes_of
       last cutting =
@@ -168,9 +168,9 @@ module _ (reply out : List ℕ) (zero : reply ≡ replicate max_frame_size 0) (h
       unended_first false u = missing u
 
     pub refused_first : Replayed reply out block lent reply out' (record { reading = r; waiting = q; written = true })
-    refused_first = go r.ended refl
+    refused_first = go (has_feed r.end) refl
       where
-        go : (t : Bool) → r.ended ≡ t → Replayed reply out block lent reply out' (record { reading = r; waiting = q; written = true })
+        go : (t : Bool) → has_feed r.end ≡ t → Replayed reply out block lent reply out' (record { reading = r; waiting = q; written = true })
         go true e = ended e
         go false e = unended_first e (ltb 0 r.used) refl
 
@@ -198,10 +198,10 @@ module _ (reply out : List ℕ) (zero : reply ≡ replicate max_frame_size 0) (h
     good_cut : lines_of (bytes_of all_lines) ≡ all_lines
     good_cut = first_cut x ran.lines good ran.cut
 
-    stood : replayed e.reading.failed reply out all_lines ran.follow ≡ taken (state j reply out₁ 0 []) ran.lines ran.follow
-    stood = good_state reply out all_lines e.reading.failed ran.follow refl good ∙ ap (λ (z : State). taken z ran.lines ran.follow) (sym start)
+    stood : replayed (has_failed e.reading.end) reply out all_lines ran.follow ≡ taken (state j reply out₁ 0 []) ran.lines ran.follow
+    stood = good_state reply out all_lines (has_failed e.reading.end) ran.follow refl good ∙ ap (λ (z : State). taken z ran.lines ran.follow) (sym start)
 
-    good_put : put (replayed e.reading.failed reply out all_lines ran.follow) ≡ text_of all_lines
+    good_put : put (replayed (has_failed e.reading.end) reply out all_lines ran.follow) ≡ text_of all_lines
     good_put =
         ap put stood
         ∙ ran.text

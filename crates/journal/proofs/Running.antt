@@ -9,15 +9,16 @@ use lib.ListN.{length, take, length-append}
 use Rattle.prelude.specs.Numbers.{max_u64}
 use Rattle.text.specs.Printed.{printed, behind}
 use Rattle.line_program.specs.declared.Reading.{Reading}
-use Rattle.line_program.specs.Reads.{left, has_line, feed, NextLine}
+use Rattle.line_program.specs.Reads.{left, has_line, feed, NextLine, has_feed, has_more, has_failed}
 use Rattle.journal_prints.specs.Room.{room}
 use Rattle.lines.specs.Lines.{longest}
 use Rattle.journal_calls.specs.Calls.{Journal, Taken}
 use Rattle.journal_calls.specs.declared.State.{State as Numbers}
 use Rattle.journal_text.specs.Texts.{turn_text, line_text}
 use Rattle.journal_text.specs.Journals.{lines_of, bytes_of, lines_text, endless}
-use Rattle.journal_text.proofs.Inputs.{Line, same_line, some, at_end, there, Ended, none_ended, all_cut, more_long, more_whole, left_whole, more_ended, last_cut, last_dry}
+use Rattle.journal_text.proofs.Inputs.{Line, same_line, some, at_end, Ended, none_ended, all_cut, more_long, more_whole, left_whole, more_ended, last_cut, last_dry}
 use Rattle.line_program.proofs.GoingOn.{apart, had_none}
+use Rattle.line_program.proofs.Ends.{with_feed, without_feed, with_failure}
 use Rattle.journal.specs.declared.Step.{Step}
 use Rattle.line_program.specs.Waits.{is_line, waiting_after, handed_after}
 use Rattle.journal.specs.Steps.{State, state, answered, taking, taken, step_of, step_text, put}
@@ -89,13 +90,13 @@ pub record Closed (before : State) (had rest : List ℕ) (j : Journal) (reply ou
   pub stood : state j reply out w handed ≡ taken before lines follow
   pub text : put (state j reply out w handed) ≡ lines_text before.journal before.reply lines
   pub cutting : lines_of (bytes_of lines) ≡ lines
-  pub dry : r.failed ≡ false → length (bytes_of lines) < endless → (r.more ≡ false) × (unfinished ++ rest ≡ [])
+  pub dry : has_failed r.end ≡ false → length (bytes_of lines) < endless → (has_more r.end ≡ false) × (unfinished ++ rest ≡ [])
   pub given : v ≡ false → handed ≡ [] → ⊥
   pub live : has_line rest ≡ false → w ≡ 0
 
 pub record Going (before : State) (had block : List ℕ) (j' : Journal) (reply out : List ℕ) (s : Step) (turns : ℕ) : Type 0 where
-  pub goes : s.reading.ended ≡ true → Open before had (left block s.reading.from s.reading.until) j' reply out s.waiting s.written turns
-  pub stops : s.reading.ended ≡ false
+  pub goes : has_feed s.reading.end ≡ true → Open before had (left block s.reading.from s.reading.until) j' reply out s.waiting s.written turns
+  pub stops : has_feed s.reading.end ≡ false
       → Closed before had (left block s.reading.from s.reading.until) j' reply out s.waiting s.written s.reading
 
 pub begin : (j : Journal) (reply out had : List ℕ) (turns : ℕ) → max_u64 ≤ turns → Open (state j reply out 0 []) had had j reply out 0 true turns
@@ -127,9 +128,9 @@ module _ {before : State} {had mid line reply out : List ℕ} {j : Journal} {w :
   rest = left block' s.reading.from s.reading.until
 
   -- where there is a line it is taken
-  module _ (e : is_line s.reading.failed s.reading.ended s.reading.used ≡ true) where
+  module _ (e : is_line s.reading.end s.reading.used ≡ true) where
     abbrev l : Line
-    l = (x.read.text, s.reading.ended)
+    l = (x.read.text, has_feed s.reading.end)
 
     -- what is handed over behind it
     abbrev gives : List ℕ
@@ -195,7 +196,7 @@ module _ {before : State} {had mid line reply out : List ℕ} {j : Journal} {w :
         ∙ ap (λ (d : Bool). (taking (state j reply out w []) l d).waiting) f
 
   -- where there is none nothing changes
-  module _ (e : is_line s.reading.failed s.reading.ended s.reading.used ≡ false) where
+  module _ (e : is_line s.reading.end s.reading.used ≡ false) where
     stayed : step_of s.reading block' line' j reply out w ≡ state j reply out w []
     unfolding step_of
     stayed = rw e
@@ -207,17 +208,17 @@ module _ {before : State} {had mid line reply out : List ℕ} {j : Journal} {w :
     left_given f _ = apart (sym (k.1.1.1.1.1.0 ho (ap (λ (z : State). z.handed) stayed)) ∙ f)
 
     -- what the block had was all read without a line feed
-    left_live : s.reading.ended ≡ false → s.reading.more ≡ false → s.waiting ≡ 0
+    left_live : has_feed s.reading.end ≡ false → has_more s.reading.end ≡ false → s.waiting ≡ 0
     left_live d m = k.1.1.1.0 ∙ ap (λ (z : State). z.waiting) stayed ∙ o.live (had_none x.read d m)
 
     left_text : put (state j' reply' out' s.waiting o.handed) ≡ lines_text before.journal before.reply o.lines
     left_text = rw (k.1.1.0, k.1.1.1.0, stayed) o.text
 
   -- a line feed ended the line
-  module _ (e : s.reading.ended ≡ true) where
+  module _ (e : has_feed s.reading.end ≡ true) where
     gone : (turns' : ℕ) → turns ≤ turns' + 1 → Open before had rest j' reply' out' s.waiting s.written turns'
     gone turns' h =
-        let t : is_line s.reading.failed s.reading.ended s.reading.used ≡ true = there x e in
+        let t : is_line s.reading.end s.reading.used ≡ true = with_feed _ _ e in
         record {
           brought = o.brought ++ x.read.brought;
           lines = o.lines ++ (l t ∷ []);
@@ -231,15 +232,15 @@ module _ {before : State} {had mid line reply out : List ℕ} {j : Journal} {w :
           given = took_given t;
           live = took_live t;
           counted =
-              let f : length (feed s.reading.ended) ≡ 1 = ap (λ (d : Bool). length (feed d)) e in
+              let f : length (feed (has_feed s.reading.end)) ≡ 1 = ap (λ (d : Bool). length (feed d)) e in
               omega (arith, o.counted, more_long o.lines x);
         }
 
   -- none did
-  module _ (e : s.reading.ended ≡ false) where
-    failing : s.reading.failed ≡ true → Closed before had rest j' reply' out' s.waiting s.written s.reading
+  module _ (e : has_feed s.reading.end ≡ false) where
+    failing : has_failed s.reading.end ≡ true → Closed before had rest j' reply' out' s.waiting s.written s.reading
     failing f =
-        let n : is_line s.reading.failed s.reading.ended s.reading.used ≡ false = rw f in
+        let n : is_line s.reading.end s.reading.used ≡ false = with_failure _ _ f in
         record {
           brought = o.brought ++ x.read.brought;
           lines = o.lines;
@@ -256,10 +257,10 @@ module _ {before : State} {had mid line reply out : List ℕ} {j : Journal} {w :
           live = λ _. left_live n e (x.read.failing f);
         }
 
-    module _ (f : s.reading.failed ≡ false) where
+    module _ (f : has_failed s.reading.end ≡ false) where
       ending : ltb 0 s.reading.used ≡ false → Closed before had rest j' reply' out' s.waiting s.written s.reading
       ending u =
-          let n : is_line s.reading.failed s.reading.ended s.reading.used ≡ false = rw (f, e, u) in
+          let n : is_line s.reading.end s.reading.used ≡ false = without_feed _ _ f e ∙ u in
           record {
             brought = o.brought ++ x.read.brought;
             lines = o.lines;
@@ -278,7 +279,7 @@ module _ {before : State} {had mid line reply out : List ℕ} {j : Journal} {w :
 
       last : ltb 0 s.reading.used ≡ true → Closed before had rest j' reply' out' s.waiting s.written s.reading
       last u =
-          let t : is_line s.reading.failed s.reading.ended s.reading.used ≡ true = rw (f, e, u) in
+          let t : is_line s.reading.end s.reading.used ≡ true = without_feed _ _ f e ∙ u in
           record {
             brought = o.brought ++ x.read.brought;
             lines = o.lines ++ (l t ∷ []);
@@ -303,20 +304,20 @@ module _ {before : State} {had mid line reply out : List ℕ} {j : Journal} {w :
           go false u = ending u
 
   pub going : (turns' : ℕ) → turns ≤ turns' + 1 → Going before had block' j' reply' out' s turns'
-  going turns' h = record { goes = λ e. gone e turns' h; stops = λ e. go e s.reading.failed refl }
+  going turns' h = record { goes = λ e. gone e turns' h; stops = λ e. go e (has_failed s.reading.end) refl }
     where
-      go : s.reading.ended ≡ false → (t : Bool) → s.reading.failed ≡ t → Closed before had rest j' reply' out' s.waiting s.written s.reading
+      go : has_feed s.reading.end ≡ false → (t : Bool) → has_failed s.reading.end ≡ t → Closed before had rest j' reply' out' s.waiting s.written s.reading
       go e true f = failing e f
       go e false f = stopped e f
 
 -- ---- the run
 
 pub finished : {before : State} {had block reply out : List ℕ} {turns : ℕ} (lent : Numbers → Journal) (s : Step)
-    → Going before had block (lent s.state) reply out s turns → (s.reading.ended ≡ true → s.written ≡ true → turns ≡ 0)
+    → Going before had block (lent s.state) reply out s turns → (has_feed s.reading.end ≡ true → s.written ≡ true → turns ≡ 0)
     → Ran before had block lent reply out (record { reading = s.reading; waiting = s.waiting; written = s.written })
-finished {before} {had} {block} {reply} {out} {turns} lent s g z = go s.reading.ended refl
+finished {before} {had} {block} {reply} {out} {turns} lent s g z = go (has_feed s.reading.end) refl
   where
-    go : (t : Bool) → s.reading.ended ≡ t → Ran before had block lent reply out (record { reading = s.reading; waiting = s.waiting; written = s.written })
+    go : (t : Bool) → has_feed s.reading.end ≡ t → Ran before had block lent reply out (record { reading = s.reading; waiting = s.waiting; written = s.written })
     go true e =
         let o = g.goes e in
         record {

@@ -9,7 +9,7 @@ use Rattle.prelude.specs.Choice.{pick}
 use Rattle.text.specs.Printed.{printed, behind}
 use Rattle.text.proofs.Printing.{length_kept, behind_within}
 use Rattle.line_program.specs.declared.Reading.{Reading}
-use Rattle.line_program.specs.Reads.{left, has_line}
+use Rattle.line_program.specs.Reads.{left, has_line, has_feed}
 use Rattle.journal_prints.specs.Room.{room}
 use Rattle.journal_calls.specs.Calls.{Journal}
 use Rattle.journal_turns.specs.Turns.{line_turn}
@@ -29,15 +29,15 @@ length_printed o p t = length_kept {q = behind o p t} (record { bytes = refl; pl
 
 module _ (s : Reading) (block line : List ℕ) (j : Journal) (reply out : List ℕ) (waiting : ℕ) where
   abbrev text : List ℕ
-  text = line_text j reply (take s.used line) s.ended
+  text = line_text j reply (take s.used line) (has_feed s.end)
 
   abbrev follows : Bool
   follows = has_line (left block s.from s.until)
 
-  pub step_made : {a : Journal} {b x : List ℕ} {w q : ℕ} {v : Bool} {R : Type 0} → is_line s.failed s.ended s.used ≡ true
+  pub step_made : {a : Journal} {b x : List ℕ} {w q : ℕ} {v : Bool} {R : Type 0} → is_line s.end s.used ≡ true
       → (w ≡ waiting_after (4 * room) follows x q) × (q ≤ length x → handed_after (4 * room) follows x q ≡ [] → v ≡ true)
-      → (a ≡ (line_turn j reply (take s.used line) s.ended).turn.journal)
-      × ((b ≡ (line_turn j reply (take s.used line) s.ended).reply)
+      → (a ≡ (line_turn j reply (take s.used line) (has_feed s.end)).turn.journal)
+      × ((b ≡ (line_turn j reply (take s.used line) (has_feed s.end)).reply)
       × ((x ≡ printed out waiting text) × ((q ≡ behind out waiting text) × (waiting + 4 * room ≤ length out → take q x ≡ take waiting out ++ text))))
       → R
       → (a ≡ (step_of s block line j reply out waiting).journal)
@@ -59,7 +59,7 @@ module _ (s : Reading) (block line : List ℕ) (j : Journal) (reply out : List �
       in
       rw e (g.0, (g.1.0, (p, (f.0 ∙ rw (p, k), (there, (λ h z. f.1 (within h) (over ∙ z), r))))))
 
-  pub step_left : {R : Type 0} → is_line s.failed s.ended s.used ≡ false
+  pub step_left : {R : Type 0} → is_line s.end s.used ≡ false
       → R
       → (j ≡ (step_of s block line j reply out waiting).journal)
       × ((reply ≡ (step_of s block line j reply out waiting).reply)
@@ -71,7 +71,7 @@ module _ (s : Reading) (block line : List ℕ) (j : Journal) (reply out : List �
   step_left e r = rw e (refl, (refl, (refl, (refl, (λ _. sym (append-nil (take waiting out)), (λ _ _. refl, r))))))
 
   kept : (t : Bool) → waiting + 4 * room ≤ length out
-      → (pick {A = State} t (taking (state j reply out waiting []) (take s.used line, s.ended) follows) (state j reply out waiting [])).waiting + 4 * room ≤ length out
+      → (pick {A = State} t (taking (state j reply out waiting []) (take s.used line, has_feed s.end) follows) (state j reply out waiting [])).waiting + 4 * room ≤ length out
   unfolding taking
   kept true h =
       omega (
@@ -84,7 +84,7 @@ module _ (s : Reading) (block line : List ℕ) (j : Journal) (reply out : List �
   -- behind a step too there is room for a line's output lines
   pub step_room : {w size : ℕ} → w ≡ (step_of s block line j reply out waiting).waiting → length out ≡ size → waiting + 4 * room ≤ size → w + 4 * room ≤ size
   unfolding step_of
-  step_room e f h = rw (e, ← f) (kept (is_line s.failed s.ended s.used) (rw f h))
+  step_room e f h = rw (e, ← f) (kept (is_line s.end s.used) (rw f h))
 
 pub opened_within : (o t : List ℕ) {q : ℕ} → q ≡ behind o 0 t → q ≤ length o
 opened_within o t e = rw e (behind_within o 0 t (omega arith))

@@ -3,7 +3,7 @@
 use Rattle.std.specs.Prelude.{ℕ, ◌<◌, ◌≡◌, Bool, true, false, List, [], ◌++◌, length}
 use Rattle.prelude.specs.Choice.{pick}
 use Rattle.text.specs.Printed.{printed, behind}
-use Rattle.line_program.specs.Reads.{left, has_line}
+use Rattle.line_program.specs.Reads.{left, has_line, has_more, has_failed}
 use Rattle.journal_calls.specs.Calls.{Journal}
 use Rattle.journal_calls.specs.declared.State.{State as Numbers}
 use Rattle.journal_text.specs.Texts.{is_good, opened, opening_text}
@@ -34,8 +34,8 @@ pub record Ran (before : State) (had block : List ℕ) (lent : Numbers → Journ
   pub waits : e.waiting ≡ (taken before lines follow).waiting
   pub text : put (taken before lines follow) ≡ lines_text before.journal before.reply lines
   -- it stopped where reading or writing failed, or else at the input's end, where no byte is left
-  pub stopped : e.written ≡ true → e.reading.failed ≡ false → length (bytes_of lines) < endless
-      → (e.reading.more ≡ false) × (unfinished ++ left block e.reading.from e.reading.until ≡ [])
+  pub stopped : e.written ≡ true → has_failed e.reading.end ≡ false → length (bytes_of lines) < endless
+      → (has_more e.reading.end ≡ false) × (unfinished ++ left block e.reading.from e.reading.until ≡ [])
   -- writing fails only where something was handed over
   pub unwritten : e.written ≡ false → (taken before lines follow).handed ≡ [] → ⊥
   -- where the block has no whole line left nothing waits
@@ -62,17 +62,17 @@ pub record Replayed (reply out block : List ℕ) (lent : Numbers → Journal) (r
   pub whole : brought ≡ bytes_of lines ++ (unfinished ++ left block e.reading.from e.reading.until)
   pub cut : lines_of (bytes_of lines) ≡ lines
   pub numbers : Numbers
-  pub journals : lent numbers ≡ (replayed e.reading.failed reply out lines follow).journal
-  pub replies : reply' ≡ (replayed e.reading.failed reply out lines follow).reply
-  pub prints : out' ≡ (replayed e.reading.failed reply out lines follow).out
-  pub waits : e.waiting ≡ (replayed e.reading.failed reply out lines follow).waiting
+  pub journals : lent numbers ≡ (replayed (has_failed e.reading.end) reply out lines follow).journal
+  pub replies : reply' ≡ (replayed (has_failed e.reading.end) reply out lines follow).reply
+  pub prints : out' ≡ (replayed (has_failed e.reading.end) reply out lines follow).out
+  pub waits : e.waiting ≡ (replayed (has_failed e.reading.end) reply out lines follow).waiting
   -- all that they print was handed over or waits
-  pub text : put (replayed e.reading.failed reply out lines follow) ≡ pick (unread e.reading.failed lines) [] (text_of lines)
+  pub text : put (replayed (has_failed e.reading.end) reply out lines follow) ≡ pick (unread (has_failed e.reading.end) lines) [] (text_of lines)
   -- it stopped where reading or writing failed, at a first line that is not good, or else at the input's end, where no byte is left
-  pub stopped : e.written ≡ true → e.reading.failed ≡ false → length (bytes_of lines) < endless → is_good (first_in lines) ≡ true
-      → (e.reading.more ≡ false) × (unfinished ++ left block e.reading.from e.reading.until ≡ [])
-  pub unwritten : e.written ≡ false → (replayed e.reading.failed reply out lines follow).handed ≡ [] → ⊥
+  pub stopped : e.written ≡ true → has_failed e.reading.end ≡ false → length (bytes_of lines) < endless → is_good (first_in lines) ≡ true
+      → (has_more e.reading.end ≡ false) × (unfinished ++ left block e.reading.from e.reading.until ≡ [])
+  pub unwritten : e.written ≡ false → (replayed (has_failed e.reading.end) reply out lines follow).handed ≡ [] → ⊥
   pub live : is_good (first_in lines) ≡ true → has_line (left block e.reading.from e.reading.until) ≡ false → e.waiting ≡ 0
   -- So where nothing failed it printed what the rule says of all bytes that were read.
-  pub all : e.written ≡ true → e.reading.failed ≡ false → length (bytes_of lines) < endless
-      → put (replayed e.reading.failed reply out lines follow) ≡ journal_text brought
+  pub all : e.written ≡ true → has_failed e.reading.end ≡ false → length (bytes_of lines) < endless
+      → put (replayed (has_failed e.reading.end) reply out lines follow) ≡ journal_text brought

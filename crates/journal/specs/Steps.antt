@@ -3,7 +3,7 @@ use Rattle.std.specs.Prelude.{ℕ, ◌*◌, Bool, false, ◌≡◌, List, [], �
 use Rattle.prelude.specs.Choice.{pick}
 use Rattle.text.specs.Printed.{printed, behind}
 use Rattle.line_program.specs.declared.Reading.{Reading}
-use Rattle.line_program.specs.Reads.{left, has_line}
+use Rattle.line_program.specs.Reads.{left, has_line, has_feed}
 use Rattle.line_program.specs.Waits.{is_line, waiting_after, handed_after}
 use Rattle.journal_prints.specs.Room.{room}
 use Rattle.journal_calls.specs.Calls.{Journal}
@@ -54,13 +54,13 @@ taken s (l ∷ rest) (follows ∷ follow) = taken (taking s l follows) rest foll
 -- nothing changes
 unfoldable pub step_of : Reading → List ℕ → List ℕ → Journal → List ℕ → List ℕ → ℕ → State
 step_of s block line j reply out waiting =
-    pick (is_line s.failed s.ended s.used)
-    (taking (state j reply out waiting []) (take s.used line, s.ended) (has_line (left block s.from s.until)))
+    pick (is_line s.end s.used)
+    (taking (state j reply out waiting []) (take s.used line, has_feed s.end) (has_line (left block s.from s.until)))
     (state j reply out waiting [])
 
 -- what its line prints
 unfoldable pub step_text : Reading → List ℕ → Journal → List ℕ → List ℕ
-step_text s line j reply = pick (is_line s.failed s.ended s.used) (line_text j reply (take s.used line) s.ended) []
+step_text s line j reply = pick (is_line s.end s.used) (line_text j reply (take s.used line) (has_feed s.end)) []
 
 -- all bytes for the output so far: those handed over, and behind them those that wait
 abbrev pub put : State → List ℕ

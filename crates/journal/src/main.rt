@@ -3,31 +3,49 @@
 #![tactic(auto)]
 
 ghost use Rattle.std.specs.Prelude.{◌≡◌, true, ◌+◌, ◌*◌, ◌≤◌, length, take, replicate, [], ◌++◌};
-ghost use Rattle.rows.specs.Words.{ledger_words};
 ghost use Rattle.wire.specs.Frame.{max_frame_size};
 ghost use Rattle.line_program.specs.Reads.{left, NextLine};
 ghost use Rattle.journal_prints.specs.Room.{room};
 ghost use Rattle.ledger.specs.Ledger.{tables_of, empty_ledger};
-ghost use Rattle.carried.specs.Carried.{no_frame, no_aims};
 ghost use Rattle.journal_calls.specs.declared.State.{State as Numbers};
 ghost use Rattle.lines.specs.Lines.{longest};
-ghost use Rattle.journal_calls.specs.Calls.{whole};
+ghost use Rattle.journal_calls.specs.Calls.{whole, blank_memory};
+ghost use Rattle.journal_turns.specs.Turns.{line_turn};
+ghost use Rattle.journal_text.specs.Texts.{first_of, state_in, opening_text, line_text};
+ghost use Rattle.text.specs.Printed.{printed, behind};
 ghost use Rattle.journal.specs.Steps.{state, step_of, step_text};
 ghost use Rattle.journal.specs.Runs.{Ran, Replayed};
 
-use frames::FrameBytes;
-use journal_calls::State;
-use ledger::Ledger;
-use lent::TargetBytes;
-use line_program::Reading;
+use journal_calls::{Memory, State};
+use line_program::{BUFFER, Reading};
 use std::env::{Env, FillError};
 use std::io::{Stderr, Stdin, Stdout, Write};
-
-// How many bytes one read may bring, and how many may wait to be written.
-const BUFFER: usize = 65536;
+use text::Printer;
 
 // Room for the output lines of one line: there are four at most.
 const ROOM: usize = 4 * journal_prints::ROOM;
+
+// A line behind the first, whose output stands in the buffer from a place on: the journal behind it, and where the output ends.
+#[tactic(auto, unfolding(text::specs::Printed::with_text))]
+fn answer(
+    j: State,
+    m: &mut Memory,
+    reply: &mut [u8],
+    line: &[u8],
+    ended: bool,
+    out: &mut [u8],
+    at: usize,
+) -> (State, usize)
+    ensures journal { whole result.0 m.new ≡ (line_turn (whole j m.old) reply.old line.now ended).turn.journal }
+    ensures reply { reply.new ≡ (line_turn (whole j m.old) reply.old line.now ended).reply }
+    ensures bytes { out.new ≡ printed out.old at (line_text (whole j m.old) reply.old line.now ended) }
+    ensures place { result.1 ≡ behind out.old at (line_text (whole j m.old) reply.old line.now ended) }
+    ensures whole { at + 4 * room ≤ length out.old → take result.1 out.new ≡ take at out.old ++ line_text (whole j m.old) reply.old line.now ended }
+{
+    let mut printer = Printer { out, at };
+    let state = journal_text::answer_line(j, m, reply, line, ended, &mut printer);
+    (state, printer.at)
+}
 
 // Where the input stands behind a line, the journal, and the output that waits.
 #[derive(Clone, Copy)]
@@ -44,10 +62,7 @@ fn take_step(
     output: Stdout,
     block: &mut [u8],
     line: &mut [u8],
-    connect: &mut FrameBytes,
-    targets: &mut TargetBytes,
-    sent: &mut FrameBytes,
-    ledger: &mut Ledger,
+    m: &mut Memory,
     reply: &mut [u8],
     out: &mut [u8],
     from: usize,
@@ -55,42 +70,37 @@ fn take_step(
     j: State,
     waiting: usize,
 ) -> Step
-    ensures journal { whole result.state connect.new targets.new (tables_of ledger.new) ledger.new sent.new ≡ (step_of result.reading block.new line.new (whole j connect.old targets.old (tables_of ledger.old) ledger.old sent.old) reply.old out.old waiting).journal }
-    ensures reply { reply.new ≡ (step_of result.reading block.new line.new (whole j connect.old targets.old (tables_of ledger.old) ledger.old sent.old) reply.old out.old waiting).reply }
-    ensures out { out.new ≡ (step_of result.reading block.new line.new (whole j connect.old targets.old (tables_of ledger.old) ledger.old sent.old) reply.old out.old waiting).out }
-    ensures waiting { result.waiting ≡ (step_of result.reading block.new line.new (whole j connect.old targets.old (tables_of ledger.old) ledger.old sent.old) reply.old out.old waiting).waiting }
-    ensures whole { waiting + 4 * room ≤ length out.old → (step_of result.reading block.new line.new (whole j connect.old targets.old (tables_of ledger.old) ledger.old sent.old) reply.old out.old waiting).handed ++ take result.waiting out.new ≡ take waiting out.old ++ step_text result.reading line.new (whole j connect.old targets.old (tables_of ledger.old) ledger.old sent.old) reply.old }
-    ensures written { waiting + 4 * room ≤ length out.old → (step_of result.reading block.new line.new (whole j connect.old targets.old (tables_of ledger.old) ledger.old sent.old) reply.old out.old waiting).handed ≡ [] → result.written ≡ true }
+    ensures journal { whole result.state m.new ≡ (step_of result.reading block.new line.new (whole j m.old) reply.old out.old waiting).journal }
+    ensures reply { reply.new ≡ (step_of result.reading block.new line.new (whole j m.old) reply.old out.old waiting).reply }
+    ensures out { out.new ≡ (step_of result.reading block.new line.new (whole j m.old) reply.old out.old waiting).out }
+    ensures waiting { result.waiting ≡ (step_of result.reading block.new line.new (whole j m.old) reply.old out.old waiting).waiting }
+    ensures whole { waiting + 4 * room ≤ length out.old → (step_of result.reading block.new line.new (whole j m.old) reply.old out.old waiting).handed ++ take result.waiting out.new ≡ take waiting out.old ++ step_text result.reading line.new (whole j m.old) reply.old }
+    ensures written { waiting + 4 * room ≤ length out.old → (step_of result.reading block.new line.new (whole j m.old) reply.old out.old waiting).handed ≡ [] → result.written ≡ true }
     ensures read { NextLine line.old (left block.old from until) block.new line.new result.reading }
 {
-    let s = line_program::next_line(input, block, line, from, until);
-    if line_program::is_line(s.failed, s.ended, s.used) {
-        let used = s.used;
-        let a = journal_text::answer_line(
+    let reading = line_program::next_line(input, block, line, from, until);
+    if reading.is_line() {
+        let (state, end) = answer(
             j,
-            connect,
-            targets,
-            sent,
-            ledger,
+            m,
             reply,
-            &line[..used],
-            s.ended,
+            &line[..reading.used],
+            reading.has_feed(),
             out,
             waiting,
         );
-        let next = a.state;
-        let w = line_program::hand_over(output, block, s.from, s.until, out, a.next, ROOM);
+        let w = line_program::hand_over(output, block, reading.from, reading.until, out, end, ROOM);
         return Step {
-            reading: s,
-            state: next,
+            reading,
+            state,
             waiting: w.bytes,
             written: w.written,
         };
     }
     Step {
-        reading: s,
+        reading,
         state: j,
-        waiting: waiting,
+        waiting,
         written: true,
     }
 }
@@ -104,16 +114,13 @@ pub struct Ending {
 }
 
 // Goes through the lines behind the first, up to one that no line feed ended. One step stands before the loop, so that the loop carries
-// what a step leaves and no more. A proved loop has to end, so it counts its turns down from a number that no run uses up.
+// what a step leaves and no more. A proved loop has to end, so its turns are counted, up to a number that no run uses up.
 fn run(
     input: Stdin,
     output: Stdout,
     block: &mut [u8],
     line: &mut [u8],
-    connect: &mut FrameBytes,
-    targets: &mut TargetBytes,
-    sent: &mut FrameBytes,
-    ledger: &mut Ledger,
+    m: &mut Memory,
     reply: &mut [u8],
     out: &mut [u8],
     first: Reading,
@@ -121,17 +128,14 @@ fn run(
 ) -> Ending
     requires { (longest ≤ length line.old) × (4 * room ≤ length out.old) }
     ensures bound { result.waiting ≤ length out.old }
-    ensures ran { Ran (state (whole opened connect.old targets.old (tables_of ledger.old) ledger.old sent.old) reply.old out.old 0 []) (left block.old first.from first.until) block.new (λ (s : Numbers). whole s connect.new targets.new (tables_of ledger.new) ledger.new sent.new) reply.new out.new result }
+    ensures ran { Ran (state (whole opened m.old) reply.old out.old 0 []) (left block.old first.from first.until) block.new (λ (s : Numbers). whole s m.new) reply.new out.new result }
 {
     let mut s = take_step(
         input,
         output,
         block,
         line,
-        connect,
-        targets,
-        sent,
-        ledger,
+        m,
         reply,
         out,
         first.from,
@@ -139,30 +143,26 @@ fn run(
         opened,
         0,
     );
-    let mut turns = u64::MAX;
-    while 0 < turns && s.reading.ended && s.written {
-        let state = s.state;
+    for _turn in 0..u64::MAX {
+        if !s.reading.has_feed() || !s.written {
+            break;
+        }
         s = take_step(
             input,
             output,
             block,
             line,
-            connect,
-            targets,
-            sent,
-            ledger,
+            m,
             reply,
             out,
             s.reading.from,
             s.reading.until,
-            state,
+            s.state,
             s.waiting,
         );
-        turns -= 1;
     }
-    let reading = s.reading;
     Ending {
-        reading: reading,
+        reading: s.reading,
         waiting: s.waiting,
         written: s.written,
     }
@@ -170,7 +170,7 @@ fn run(
 
 // Writes what waits, but not behind a gap; what failed is told on standard error.
 fn finish(output: Stdout, mut errors: Stderr, out: &[u8], e: Ending) {
-    if e.reading.failed {
+    if e.reading.has_failed() {
         let _ = errors.write_all(b"journal: standard input cannot be read\n");
     }
     if e.written {
@@ -187,37 +187,30 @@ fn replay(
     output: Stdout,
     block: &mut [u8],
     line: &mut [u8],
-    connect: &mut FrameBytes,
-    targets: &mut TargetBytes,
-    sent: &mut FrameBytes,
-    ledger: &mut Ledger,
+    m: &mut Memory,
     reply: &mut [u8],
     out: &mut [u8],
 ) -> Ending
-    requires { (longest ≤ length line.old) × (4 * room ≤ length out.old) × (reply.old ≡ replicate max_frame_size 0) × (connect.old ≡ no_frame) × (targets.old ≡ no_aims) × (sent.old ≡ no_frame) × (ledger.old ≡ replicate ledger_words 0) × (tables_of ledger.old ≡ empty_ledger) }
+    requires { (longest ≤ length line.old) × (4 * room ≤ length out.old) × (reply.old ≡ replicate max_frame_size 0) × (m.old ≡ blank_memory) × (tables_of m.old.ledger ≡ empty_ledger) }
     ensures bound { result.waiting ≤ length out.old }
-    ensures replayed { Replayed reply.old out.old block.new (λ (s : Numbers). whole s connect.new targets.new (tables_of ledger.new) ledger.new sent.new) reply.new out.new result }
+    ensures replayed { Replayed reply.old out.old block.new (λ (s : Numbers). whole s m.new) reply.new out.new result }
 {
-    let s = line_program::next_line(input, block, line, 0, 0);
-    if s.failed {
+    let reading = line_program::next_line(input, block, line, 0, 0);
+    if reading.has_failed() {
         return Ending {
-            reading: s,
+            reading,
             waiting: 0,
             written: true,
         };
     }
-    let used = s.used;
-    let o = journal_text::open_journal(&line[..used], s.ended, out, 0);
-    if o.good {
-        let opened = o.state;
-        return run(
-            input, output, block, line, connect, targets, sent, ledger, reply, out, s, opened,
-        );
-    }
-    Ending {
-        reading: s,
-        waiting: o.next,
-        written: true,
+    let (opening, end) = journal_text::open_into(&line[..reading.used], reading.has_feed(), out);
+    match opening {
+        Some(opened) => run(input, output, block, line, m, reply, out, reading, opened),
+        None => Ending {
+            reading,
+            waiting: end,
+            written: true,
+        },
     }
 }
 
@@ -231,20 +224,13 @@ fn main(rt: HostRuntime) {
     let mut line = [0u8; lines::LONGEST];
     let mut reply = [0u8; wire::MAX_FRAME_SIZE];
     let mut out = [0u8; BUFFER];
-    let mut connect = frames::blank();
-    let mut sent = frames::blank();
-    let none = candidates::Chosen::empty();
-    let mut targets = none.bytes;
-    let mut ledger = ledger::empty();
+    let mut memory = Memory::blank();
     let e = replay(
         rt.stdin(),
         rt.stdout(),
         &mut block,
         &mut line,
-        &mut connect,
-        &mut targets,
-        &mut sent,
-        &mut ledger,
+        &mut memory,
         &mut reply,
         &mut out,
     );

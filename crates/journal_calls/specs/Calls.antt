@@ -1,5 +1,5 @@
 -- What the calls of a journal's lines do (RULES.md, sections 12.5 to 12.7): the journal after a call, and what is said of it.
-use Rattle.std.specs.Prelude.{ℕ, Bool, true, false, List, replicate, Err, None, Ok, Option, Result, Some, ⊤}
+use Rattle.std.specs.Prelude.{ℕ, Bool, true, false, List, replicate, Err, None, Ok, Option, Result, Some, is_some, ⊤}
 use Rattle.rows.specs.Words.{ledger_words}
 use Rattle.prelude.specs.Choice.{pick}
 use Rattle.refusal.specs.declared.Refusal.{Refusal}
@@ -10,7 +10,7 @@ use Rattle.ids.specs.declared.NatToken.{NatToken}
 use Rattle.ids.specs.declared.ConnectId.{ConnectId}
 use Rattle.path.specs.declared.Claim.{Claim}
 use Rattle.path.specs.declared.DialPurpose.TheVariants.{Punch}
-use Rattle.ledger.specs.Ledger.{PathLedger, Recorded, Attributed, empty_ledger, laid, dial_started, forgotten, attributed, ticked}
+use Rattle.ledger.specs.Ledger.{PathLedger, Recorded, Attributed, empty_ledger, tables_of, laid, dial_started, forgotten, attributed, ticked}
 use Rattle.vocabulary.specs.declared.Settings.{Settings}
 use Rattle.vocabulary.specs.declared.Host.{Host}
 use Rattle.vocabulary.specs.declared.StreamInput.{StreamInput}
@@ -27,9 +27,9 @@ use Rattle.inbound.specs.Circuits.{decided_at}
 use Rattle.questions.specs.Questions.{claim_of}
 use Rattle.journal_effects.specs.declared.Effects.{Effects}
 use Rattle.journal_calls.specs.declared.State.{State}
+use Rattle.journal_calls.specs.declared.Memory.{Memory}
 use Rattle.journal_calls.specs.declared.Said.{Said}
 use Rattle.journal_calls.specs.declared.Turn.{Turn}
-use Rattle.path.specs.declared.Claim.TheVariants as claim
 use Rattle.journal_calls.specs.declared.Said.TheVariants as said
 use Rattle.path.specs.declared.Attribution.{Attribution}
 
@@ -46,26 +46,34 @@ pub record Journal : Type 0 where
   pub words : List ℕ
   pub sent : List ℕ
 
+-- before a start was accepted no circuit is there; the numbers of one stand in for it, which no line reaches
+abbrev pub idle : Settings → Core
+idle s = (started_of (record { 0 = 0 }) (record { 0 = 0 }) (record { 0 = 0 }) s 0).core
+
+abbrev pub core_in : Settings → Option Core → Core
+core_in s (Some c) = c
+core_in s None = idle s
+
 -- its numbers, which go from line to line by value
 abbrev pub state_of : Journal → State
-state_of j = record { n = j.n; begun = j.begun; settings = j.settings; core = j.circuit.core }
+state_of j = record { n = j.n; settings = j.settings; core = pick j.begun (Some j.circuit.core) None }
 
--- the journal of these numbers and of what is lent
-abbrev pub whole : State → (connect targets : List ℕ) → PathLedger → (words sent : List ℕ) → Journal
-whole s connect targets l words sent =
+-- the journal of these numbers and of this memory
+abbrev pub whole : State → Memory → Journal
+whole s m =
     record {
       n = s.n;
-      begun = s.begun;
+      begun = is_some s.core;
       settings = s.settings;
-      circuit = record { core = s.core; connect = connect; targets = targets };
-      ledger = l;
-      words = words;
-      sent = sent;
+      circuit = record { core = core_in s.settings s.core; connect = m.connect; targets = m.targets };
+      ledger = tables_of m.ledger;
+      words = m.ledger;
+      sent = m.sent;
     }
 
-abbrev pub with_circuit : Journal → InboundCircuit → (sent : List ℕ) → Journal
-with_circuit j c sent =
-    record { n = j.n; begun = j.begun; settings = j.settings; circuit = c; ledger = j.ledger; words = j.words; sent = sent }
+-- what the memory is before the first line
+abbrev pub blank_memory : Memory
+blank_memory = record { connect = no_frame; targets = no_aims; sent = no_frame; ledger = replicate ledger_words 0 }
 
 -- the ledger's new rows lie in the words
 abbrev pub with_ledger : Journal → PathLedger → Journal
@@ -79,7 +87,7 @@ new_journal s =
       n = 0;
       begun = false;
       settings = s;
-      circuit = record { core = (started_of (record { 0 = 0 }) (record { 0 = 0 }) (record { 0 = 0 }) s 0).core; connect = no_frame; targets = no_aims };
+      circuit = record { core = idle s; connect = no_frame; targets = no_aims };
       ledger = empty_ledger;
       words = replicate ledger_words 0;
       sent = no_frame;
@@ -106,9 +114,9 @@ pub record Turned : Type 0 where
   pub said : Said
   pub effects : Effects
 
--- of a turn's numbers and of what is lent
-abbrev pub turned : Turn → (connect targets : List ℕ) → PathLedger → (words sent : List ℕ) → Turned
-turned t connect targets l words sent = record { journal = whole t.state connect targets l words sent; said = t.said; effects = t.effects }
+-- of a turn's numbers and of the memory
+abbrev pub turned : Turn → Memory → Turned
+turned t m = record { journal = whole t.state m; said = t.said; effects = t.effects }
 
 unfoldable pub no_effects : Effects
 no_effects = record { first = None; second = None; third = None; fourth = None; message = 0; targets = 0; took = false }
@@ -142,7 +150,7 @@ effects_of d =
     }
 
 abbrev pub with_core : State → Core → State
-with_core s c = record { n = s.n; begun = s.begun; settings = s.settings; core = c }
+with_core s c = record { n = s.n; settings = s.settings; core = Some c }
 
 -- the circuit's decision; a refused call changes nothing
 abbrev pub settled_in : State → Decision → Result ⊤ Refusal → Turn
@@ -185,15 +193,6 @@ start_in j d = started_by j d.core d.outcome
 
 unfoldable pub start_turn : Journal → ℕ → PeerId → PeerId → ConnectionId → Turned
 start_turn j at source relay conn = start_in j (started_of source relay conn j.settings at)
-
--- of its numbers, and of lent bytes that it clears
-abbrev pub started_in : State → Decision → Result ⊤ Refusal → Turn
-started_in s d (Ok tt) = saying (record { n = s.n; begun = true; settings = s.settings; core = d.core }) said.Effects
-started_in s d (Err why) = saying s (said.Refused why)
-
-abbrev pub cleared_by : Result ⊤ Refusal → List ℕ → List ℕ → List ℕ
-cleared_by (Ok tt) none bytes = none
-cleared_by (Err why) none bytes = bytes
 
 -- the source's window in the ledger
 abbrev pub ledger_by : Journal → Decision → PathLedger
@@ -282,10 +281,6 @@ dial_in j r = dialed_by j r.ledger r.outcome
 unfoldable pub dial_turn : Journal → ConnectionId → NatToken → ConnectId → Turned
 dial_turn j conn token id = dial_in j (dial_started j.ledger conn token (Punch id))
 
-abbrev pub said_of : Result ⊤ Refusal → Said
-said_of (Ok tt) = said.Effects
-said_of (Err why) = said.Refused why
-
 -- forget (section 10.6)
 unfoldable pub forget_turn : Journal → ConnectionId → Turned
 forget_turn j conn = silent (with_ledger j (forgotten j.ledger conn).ledger)
@@ -305,7 +300,3 @@ attribute_in j a = named_by j a.ledger a.answer
 unfoldable pub attribute_turn : Journal → ℕ → PeerId → ConnectionId → Bool → Turned
 attribute_turn j at peer conn relayed =
     attribute_in j (attributed j.ledger conn peer relayed (claim_for j.circuit.core conn relayed) at)
-
-abbrev pub named_as : Result (Option Attribution) Refusal → Said
-named_as (Ok found) = said.Attributed found
-named_as (Err why) = said.Refused why

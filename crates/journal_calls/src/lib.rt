@@ -1,16 +1,13 @@
-// What the calls of a journal's lines do. The journal's numbers go in by value and come back with what is to be said; its bytes are lent:
-// the circuit's CONNECT and targets, the message that goes out, the ledger, and the reply buffer.
+// What the calls of a journal's lines do. The journal's numbers go in by value and come back with what is to be said; its memory is lent, and
+// so is the reply buffer.
 #![tactic(auto)]
 
 ghost use Rattle.std.specs.Prelude.{◌≡◌};
-ghost use Rattle.path.specs.declared.DialPurpose.TheVariants.{Punch};
-ghost use Rattle.ledger.specs.Ledger.{tables_of, laid, dial_started, forgotten, attributed};
-ghost use Rattle.circuit.specs.State.{terms_of};
-ghost use Rattle.carried.specs.Carried.{sent_after, ledger_after, connect_after, no_frame, no_aims};
-ghost use Rattle.circuit.specs.Calls.{started_of, wrote_of, down_of};
-ghost use Rattle.lent.specs.Calls.{up_of, tick_of};
-ghost use Rattle.journal_calls.specs.Calls.{whole, turned, no_effects, saying, effects_of, settled_in, started_in, cleared_by, input_turn, expired, claim_for, said_of, named_as};
+ghost use Rattle.ledger.specs.Ledger.{tables_of, laid, empty_ledger};
+ghost use Rattle.circuit.specs.Calls.{wrote_of, down_of};
+ghost use Rattle.journal_calls.specs.Calls.{whole, turned, blank_memory, with_core, no_effects, saying, effects_of, settled_in, start_turn, up_turn, input_turn, tick_turn, dial_turn, forget_turn, attribute_turn, expired, claim_for};
 
+use candidates::Chosen;
 use circuit::decision;
 use circuit::decision::Decision;
 use circuit::state::Core;
@@ -25,14 +22,43 @@ use vocabulary::{Host, Settings, StreamInput};
 
 // ---- the state
 
-// The journal, but for its bytes. Before a start was accepted `core` stands in for none, and no line reaches it.
+// The journal, but for its memory.
 #[derive(Clone, Copy)]
 pub struct State {
     // The lines so far, without the first.
     pub n: u64,
-    pub begun: bool,
     pub settings: Settings,
-    pub core: Core,
+    // None before a start was accepted.
+    pub core: Option<Core>,
+}
+
+// What the journal keeps in place: the bytes of the circuit's CONNECT and of its targets, the message that goes out, and the ledger.
+#[derive(Drop)]
+pub struct Memory {
+    pub connect: FrameBytes,
+    pub targets: TargetBytes,
+    pub sent: FrameBytes,
+    pub ledger: Ledger,
+}
+
+impl Memory {
+    // Zeros, and an empty ledger.
+    pub fn blank() -> Self
+        ensures bytes { result ≡ blank_memory }
+        ensures tables { tables_of result.ledger ≡ empty_ledger }
+    {
+        let connect = frames::blank();
+        let none = Chosen::empty();
+        let targets = none.bytes;
+        let sent = frames::blank();
+        let ledger = ledger::empty();
+        Memory {
+            connect,
+            targets,
+            sent,
+            ledger,
+        }
+    }
 }
 
 // An accepted call says its effects, or how a connection was named.
@@ -94,14 +120,24 @@ fn effects_of(d: Decision) -> Effects
     }
 }
 
+fn with_core(j: State, core: Core) -> State
+    ensures { result ≡ with_core j core }
+{
+    State {
+        core: Some(core),
+        ..j
+    }
+}
+
 // What the circuit decided.
+#[tactic(auto, unfolding(crate::specs::Calls::saying))]
 fn settle(j: State, d: Decision) -> Turn
     ensures { result ≡ settled_in j d d.outcome }
 {
     match d.outcome {
         Err(why) => say(j, Said::Refused(why)),
         Ok(()) => Turn {
-            state: State { core: d.core, ..j },
+            state: with_core(j, d.core),
             said: Said::Effects,
             effects: effects_of(d),
         },
@@ -111,63 +147,60 @@ fn settle(j: State, d: Decision) -> Turn
 // ---- the calls
 
 // An accepted start puts a circuit in place of the one before; the ledger stays.
+#[tactic(auto, unfolding(crate::specs::Calls::start_turn, crate::specs::Calls::started, crate::specs::Calls::silent, crate::specs::Calls::refused, crate::specs::Calls::saying))]
 pub fn start_turn(
     j: State,
-    connect: &mut FrameBytes,
-    targets: &mut TargetBytes,
+    m: &mut Memory,
     at: u64,
     source: PeerId,
     relay: PeerId,
     circuit: ConnectionId,
 ) -> Turn
-    ensures turn { result ≡ started_in j (started_of source relay circuit j.settings at) (started_of source relay circuit j.settings at).outcome }
-    ensures connect { connect.new ≡ cleared_by (started_of source relay circuit j.settings at).outcome no_frame connect.old }
-    ensures targets { targets.new ≡ cleared_by (started_of source relay circuit j.settings at).outcome no_aims targets.old }
+    ensures { turned result m.new ≡ start_turn (whole j m.old) at source relay circuit }
 {
     let d = Core::new(source, relay, circuit, j.settings, at);
     match d.outcome {
         Err(why) => say(j, Said::Refused(why)),
         Ok(()) => {
-            lent::calls::clear(connect, targets);
-            let started = State {
-                begun: true,
-                core: d.core,
-                ..j
-            };
-            say(started, Said::Effects)
+            lent::calls::clear(&mut m.connect, &mut m.targets);
+            say(with_core(j, d.core), Said::Effects)
         }
     }
 }
 
+// The other calls of a circuit are made on the journal with this one.
 pub fn up_turn(
     j: State,
-    connect: &mut FrameBytes,
-    sent: &mut FrameBytes,
-    ledger: &mut Ledger,
+    core: Core,
+    m: &mut Memory,
     host: Host,
     own: &[u8],
     peer: PeerId,
     conn: ConnectionId,
     circuit: bool,
 ) -> Turn
-    ensures turn { result ≡ settled_in j (up_of j.core host own.now peer conn circuit) (up_of j.core host own.now peer conn circuit).outcome }
-    ensures connect { connect.new ≡ connect_after (terms_of j.core.settings) own.now connect.old (up_of j.core host own.now peer conn circuit).fourth }
-    ensures sent { sent.new ≡ sent_after connect.old sent.old (up_of j.core host own.now peer conn circuit).message }
-    ensures tables { tables_of ledger.new ≡ ledger_after j.core.source (tables_of ledger.old) (up_of j.core host own.now peer conn circuit).window }
-    ensures words { ledger.new ≡ laid (ledger_after j.core.source (tables_of ledger.old) (up_of j.core host own.now peer conn circuit).window) ledger.old }
+    ensures { turned result m.new ≡ up_turn (whole (with_core j core) m.old) host own.now peer conn circuit }
 {
+    rows::known(&m.ledger);
     let d = lent::calls::on_connection_established(
-        j.core, connect, sent, ledger, host, own, peer, conn, circuit,
+        core,
+        &mut m.connect,
+        &mut m.sent,
+        &mut m.ledger,
+        host,
+        own,
+        peer,
+        conn,
+        circuit,
     );
-    settle(j, d)
+    settle(with_core(j, core), d)
 }
 
+#[tactic(auto, unfolding(crate::specs::Calls::input_turn))]
 pub fn input_turn(
     j: State,
-    connect: &mut FrameBytes,
-    targets: &mut TargetBytes,
-    sent: &mut FrameBytes,
-    ledger: &mut Ledger,
+    core: Core,
+    m: &mut Memory,
     reply: &mut [u8],
     host: Host,
     own: &[u8],
@@ -176,17 +209,29 @@ pub fn input_turn(
     bytes: &[u8],
     pending: bool,
 ) -> Turn
-    ensures turn { turned result connect.new targets.new (tables_of ledger.new) ledger.new sent.new ≡ (input_turn (whole j connect.old targets.old (tables_of ledger.old) ledger.old sent.old) host own.now reply.old stream kind bytes.now pending).turn }
-    ensures reply { reply.new ≡ (input_turn (whole j connect.old targets.old (tables_of ledger.old) ledger.old sent.old) host own.now reply.old stream kind bytes.now pending).reply }
+    ensures turn { turned result m.new ≡ (input_turn (whole (with_core j core) m.old) host own.now reply.old stream kind bytes.now pending).turn }
+    ensures reply { reply.new ≡ (input_turn (whole (with_core j core) m.old) host own.now reply.old stream kind bytes.now pending).reply }
 {
-    rows::known(ledger);
+    rows::known(&m.ledger);
     let d = lent::calls::on_dcutr_stream_input(
-        j.core, connect, targets, sent, ledger, reply, host, own, stream, kind, bytes, pending,
+        core,
+        &mut m.connect,
+        &mut m.targets,
+        &mut m.sent,
+        &mut m.ledger,
+        reply,
+        host,
+        own,
+        stream,
+        kind,
+        bytes,
+        pending,
     );
-    settle(j, d)
+    settle(with_core(j, core), d)
 }
 
 // The ledger ticks behind the circuit, where the circuit's tick is accepted.
+#[tactic(auto, using(ledger::proofs::Laws::laid_same))]
 fn expire(outcome: Result<(), Refusal>, ledger: &mut Ledger, at: u64)
     ensures tables { tables_of ledger.new ≡ expired outcome (tables_of ledger.old) at }
     ensures words { ledger.new ≡ laid (expired outcome (tables_of ledger.old) at) ledger.old }
@@ -197,60 +242,53 @@ fn expire(outcome: Result<(), Refusal>, ledger: &mut Ledger, at: u64)
     }
 }
 
-pub fn tick_turn(
-    j: State,
-    connect: &mut FrameBytes,
-    sent: &mut FrameBytes,
-    ledger: &mut Ledger,
-    host: Host,
-    own: &[u8],
-) -> Turn
-    ensures turn { result ≡ settled_in j (tick_of j.core host own.now) (tick_of j.core host own.now).outcome }
-    ensures connect { connect.new ≡ connect_after (terms_of j.core.settings) own.now connect.old (tick_of j.core host own.now).fourth }
-    ensures sent { sent.new ≡ sent_after connect.old sent.old (tick_of j.core host own.now).message }
-    ensures tables { tables_of ledger.new ≡ expired (tick_of j.core host own.now).outcome (ledger_after j.core.source (tables_of ledger.old) (tick_of j.core host own.now).window) host.at }
-    ensures words { ledger.new ≡ laid (expired (tick_of j.core host own.now).outcome (ledger_after j.core.source (tables_of ledger.old) (tick_of j.core host own.now).window) host.at) (laid (ledger_after j.core.source (tables_of ledger.old) (tick_of j.core host own.now).window) ledger.old) }
+pub fn tick_turn(j: State, core: Core, m: &mut Memory, host: Host, own: &[u8]) -> Turn
+    ensures { turned result m.new ≡ tick_turn (whole (with_core j core) m.old) host own.now }
 {
-    let d = lent::calls::on_tick(j.core, connect, sent, ledger, host, own);
-    expire(d.outcome, ledger, host.at);
-    settle(j, d)
+    rows::known(&m.ledger);
+    let d = lent::calls::on_tick(core, &mut m.connect, &mut m.sent, &mut m.ledger, host, own);
+    expire(d.outcome, &mut m.ledger, host.at);
+    settle(with_core(j, core), d)
 }
 
-pub fn wrote_turn(j: State, at: u64, conn: ConnectionId, stream: StreamId) -> Turn
-    ensures { result ≡ settled_in j (wrote_of j.core at conn stream) (wrote_of j.core at conn stream).outcome }
+// A write and a lost connection leave the memory as it is.
+pub fn wrote_turn(j: State, core: Core, at: u64, conn: ConnectionId, stream: StreamId) -> Turn
+    ensures { result ≡ settled_in (with_core j core) (wrote_of core at conn stream) (wrote_of core at conn stream).outcome }
 {
-    settle(j, j.core.on_write_completed(at, conn, stream))
+    settle(
+        with_core(j, core),
+        core.on_write_completed(at, conn, stream),
+    )
 }
 
-pub fn down_turn(j: State, conn: ConnectionId) -> Turn
-    ensures { result ≡ settled_in j (down_of j.core conn) (down_of j.core conn).outcome }
+pub fn down_turn(j: State, core: Core, conn: ConnectionId) -> Turn
+    ensures { result ≡ settled_in (with_core j core) (down_of core conn) (down_of core conn).outcome }
 {
-    settle(j, j.core.on_connection_closed(conn))
+    settle(with_core(j, core), core.on_connection_closed(conn))
 }
 
+#[tactic(auto, unfolding(crate::specs::Calls::dial_turn, crate::specs::Calls::silent, crate::specs::Calls::refused, crate::specs::Calls::saying), using(crate::proofs::Turning::undialed, ledger::proofs::Laws::laid_same))]
 pub fn dial_turn(
     j: State,
-    ledger: &mut Ledger,
+    m: &mut Memory,
     conn: ConnectionId,
     token: NatToken,
     id: ConnectId,
 ) -> Turn
-    ensures turn { result ≡ saying j (said_of (dial_started (tables_of ledger.old) conn token (Punch id)).outcome) }
-    ensures tables { tables_of ledger.new ≡ (dial_started (tables_of ledger.old) conn token (Punch id)).ledger }
-    ensures words { ledger.new ≡ laid (dial_started (tables_of ledger.old) conn token (Punch id)).ledger ledger.old }
+    ensures { turned result m.new ≡ dial_turn (whole j m.old) conn token id }
 {
-    match ledger::dial_started(ledger, conn, token, DialPurpose::Punch(id)) {
+    rows::known(&m.ledger);
+    match ledger::dial_started(&mut m.ledger, conn, token, DialPurpose::Punch(id)) {
         Err(why) => say(j, Said::Refused(why)),
         Ok(()) => say(j, Said::Effects),
     }
 }
 
-pub fn forget_turn(j: State, ledger: &mut Ledger, conn: ConnectionId) -> Turn
-    ensures turn { result ≡ saying j (Said.Effects) }
-    ensures tables { tables_of ledger.new ≡ (forgotten (tables_of ledger.old) conn).ledger }
-    ensures words { ledger.new ≡ laid (forgotten (tables_of ledger.old) conn).ledger ledger.old }
+#[tactic(auto, unfolding(crate::specs::Calls::forget_turn, crate::specs::Calls::silent, crate::specs::Calls::saying))]
+pub fn forget_turn(j: State, m: &mut Memory, conn: ConnectionId) -> Turn
+    ensures { turned result m.new ≡ forget_turn (whole j m.old) conn }
 {
-    ledger::forget(ledger, conn);
+    ledger::forget(&mut m.ledger, conn);
     say(j, Said::Effects)
 }
 
@@ -265,21 +303,23 @@ fn claim_for(c: Core, conn: ConnectionId, circuit: bool) -> Option<Claim>
     None
 }
 
+#[tactic(auto, unfolding(crate::specs::Calls::attribute_turn, crate::specs::Calls::naming, crate::specs::Calls::refused, crate::specs::Calls::saying), using(crate::proofs::Turning::unnamed, ledger::proofs::Laws::laid_same))]
 pub fn attribute_turn(
     j: State,
-    ledger: &mut Ledger,
+    core: Core,
+    m: &mut Memory,
     at: u64,
     peer: PeerId,
     conn: ConnectionId,
     circuit: bool,
 ) -> Turn
-    ensures turn { result ≡ saying j (named_as (attributed (tables_of ledger.old) conn peer circuit (claim_for j.core conn circuit) at).answer) }
-    ensures tables { tables_of ledger.new ≡ (attributed (tables_of ledger.old) conn peer circuit (claim_for j.core conn circuit) at).ledger }
-    ensures words { ledger.new ≡ laid (attributed (tables_of ledger.old) conn peer circuit (claim_for j.core conn circuit) at).ledger ledger.old }
+    ensures { turned result m.new ≡ attribute_turn (whole (with_core j core) m.old) at peer conn circuit }
 {
-    let claim = claim_for(j.core, conn, circuit);
-    match ledger::attribute(ledger, conn, peer, circuit, claim, at) {
-        Ok(found) => say(j, Said::Attributed(found)),
-        Err(why) => say(j, Said::Refused(why)),
+    rows::known(&m.ledger);
+    let state = with_core(j, core);
+    let claim = claim_for(core, conn, circuit);
+    match ledger::attribute(&mut m.ledger, conn, peer, circuit, claim, at) {
+        Ok(found) => say(state, Said::Attributed(found)),
+        Err(why) => say(state, Said::Refused(why)),
     }
 }

@@ -1,5 +1,5 @@
 -- What is printed of a circuit's answer (RULES.md, sections 11.2 and 12.7).
-use Rattle.std.specs.Prelude.{ℕ, min, Bool, true, false, List, [], ◌++◌, take, None, Option, Some, is_none}
+use Rattle.std.specs.Prelude.{ℕ, min, Bool, List, [], ◌++◌, take, None, Option, Some, is_none}
 use Rattle.prelude.specs.Choice.{pick, both}
 use Rattle.candidates.specs.Selection.{capacity}
 use Rattle.frames.specs.Sent.{frame_capacity}
@@ -8,14 +8,17 @@ use Rattle.vocabulary.specs.declared.Effect.TheVariants.{Path, Burst, Upgrade, C
 use Rattle.journal_prints.specs.Outputs.{none_text, path_text, open_text, send_text, reset_text, burst_text, close_text, upgrade_text}
 use Rattle.journal_effects.specs.declared.Effects.{Effects}
 
--- so many of the bytes lent for the message, its frame length in front; of a message that would be longer than any, as many as the
--- longest has
+-- so many of the bytes, and no more than the most there can be
+abbrev pub first : (most : ℕ) → ℕ → List ℕ → List ℕ
+first most len bytes = take (min len most) bytes
+
+-- of the bytes lent for the message, its frame length in front; of a message that would be longer than any, as many as the longest has
 abbrev pub message_of : ℕ → List ℕ → List ℕ
-message_of len sent = take (min len frame_capacity) sent
+message_of len sent = first frame_capacity len sent
 
 -- of those of the target list likewise
 abbrev pub targets_of : ℕ → List ℕ → List ℕ
-targets_of len aims = take (min len capacity) aims
+targets_of len aims = first capacity len aims
 
 -- the line of an effect; none for the effect that is missing
 abbrev pub effect_text : ℕ → List ℕ → List ℕ → Option Effect → List ℕ

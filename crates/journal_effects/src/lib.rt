@@ -1,17 +1,16 @@
 // What the journal prints of a circuit's answer: an output line for each effect, in order, or the line `none`.
 #![tactic(auto)]
 
-ghost use Rattle.std.specs.Prelude.{◌≡◌, ◌*◌, ◌≤◌, min, length, take, Some};
-ghost use Rattle.text.specs.Printed.{printed, behind};
-ghost use Rattle.journal_prints.specs.Outputs.{send_text, burst_text};
+ghost use Rattle.std.specs.Prelude.{◌≡◌, ◌*◌, ◌≤◌, length, Some};
+ghost use Rattle.text.specs.Printed.{page, with_text};
 ghost use Rattle.frames.specs.Sent.{frame_capacity};
 ghost use Rattle.candidates.specs.Selection.{capacity};
 ghost use Rattle.journal_prints.specs.Room.{room};
-ghost use Rattle.journal_effects.specs.Effects.{message_of, targets_of, effect_text, no_effect, lines_text, effects_text};
+ghost use Rattle.journal_effects.specs.Effects.{first, effect_text, no_effect, lines_text, effects_text};
 
 use frames::FrameBytes;
-use ids::{ConnectionId, StreamId};
 use lent::TargetBytes;
+use text::Printer;
 use vocabulary::Effect;
 
 // `message` is how many bytes are sent, `targets` how many are those of the burst's targets; the bytes are lent. `took` is whether the circuit
@@ -27,110 +26,66 @@ pub struct Effects {
     pub took: bool,
 }
 
-// A circuit may say that its message is longer than the message's bytes.
-fn put_message(
-    n: u64,
-    conn: ConnectionId,
-    stream: StreamId,
-    bytes: &[u8],
-    len: usize,
-    out: &mut [u8],
-    at: usize,
-) -> usize
-    ensures bytes { out.new ≡ printed out.old at (send_text n conn stream (take (min len frame_capacity) bytes.now)) }
-    ensures place { result ≡ behind out.old at (send_text n conn stream (take (min len frame_capacity) bytes.now)) }
+// The bytes of a message that goes out, or of a target list. A circuit may say that there are more than the room has.
+fn first<const N: usize>(len: usize, bytes: &[u8; N]) -> &[u8]
+    ensures bytes { result.now ≡ first N len bytes.now }
+    ensures short { length result.now ≤ N }
 {
-    let size = text::least(len, frames::FRAME_CAPACITY);
-    if bytes.len() < size {
-        return journal_prints::put_send(n, conn, stream, bytes, out, at);
-    }
-    journal_prints::put_send(n, conn, stream, &bytes[..size], out, at)
+    &bytes[..len.min(N)]
 }
 
-// Targets likewise.
-fn put_targets(
-    n: u64,
-    times: u64,
-    payload: u64,
-    bytes: &[u8],
-    len: usize,
-    out: &mut [u8],
-    at: usize,
-) -> usize
-    ensures bytes { out.new ≡ printed out.old at (burst_text n times payload (take (min len capacity) bytes.now)) }
-    ensures place { result ≡ behind out.old at (burst_text n times payload (take (min len capacity) bytes.now)) }
-{
-    let size = text::least(len, candidates::CAPACITY);
-    if bytes.len() < size {
-        return journal_prints::put_burst(n, times, payload, bytes, out, at);
-    }
-    journal_prints::put_burst(n, times, payload, &bytes[..size], out, at)
-}
-
-fn put_effect(
-    n: u64,
-    effect: Effect,
-    sent: &FrameBytes,
-    message: usize,
-    aims: &TargetBytes,
-    targets: usize,
-    out: &mut [u8],
-    at: usize,
-) -> usize
-    ensures bytes { out.new ≡ printed out.old at (effect_text n (message_of message sent.now) (targets_of targets aims.now) (Some effect)) }
-    ensures place { result ≡ behind out.old at (effect_text n (message_of message sent.now) (targets_of targets aims.now) (Some effect)) }
-    ensures short { length (effect_text n (message_of message sent.now) (targets_of targets aims.now) (Some effect)) ≤ room }
+fn put_effect(n: u64, effect: Effect, message: &[u8], targets: &[u8], printer: &mut Printer<'_>)
+    requires { (length message.now ≤ frame_capacity) × (length targets.now ≤ capacity) }
+    ensures bytes { page printer.new ≡ with_text (page printer.old) (effect_text n message.now targets.now (Some effect)) }
+    ensures short { length (effect_text n message.now targets.now (Some effect)) ≤ room }
 {
     match effect {
         Effect::Path { peer, relay, conn } => {
             text::in_range(peer.0, relay.0, conn.0);
-            journal_prints::put_path(n, peer, relay, conn, out, at)
+            journal_prints::put_path(n, peer, relay, conn, printer);
         }
         Effect::Burst { times, payload } => {
             text::in_range(n, times, payload);
-            put_targets(n, times, payload, aims, targets, out, at)
+            journal_prints::put_burst(n, times, payload, targets, printer);
         }
         Effect::Upgrade { peer, old, new } => {
             text::in_range(peer.0, old.0, new.0);
-            journal_prints::put_upgrade(n, peer, old, new, out, at)
+            journal_prints::put_upgrade(n, peer, old, new, printer);
         }
         Effect::Close { conn } => {
             text::in_range(n, n, conn.0);
-            journal_prints::put_close(n, conn, out, at)
+            journal_prints::put_close(n, conn, printer);
         }
         Effect::Send { conn, stream } => {
             text::in_range(n, conn.0, stream.0);
-            put_message(n, conn, stream, sent, message, out, at)
+            journal_prints::put_send(n, conn, stream, message, printer);
         }
         Effect::Reset { conn, stream } => {
             text::in_range(n, conn.0, stream.0);
-            journal_prints::put_reset(n, conn, stream, out, at)
+            journal_prints::put_reset(n, conn, stream, printer);
         }
         Effect::Open { conn, stream } => {
             text::in_range(n, conn.0, stream.0);
-            journal_prints::put_open(n, conn, stream, out, at)
+            journal_prints::put_open(n, conn, stream, printer);
         }
     }
 }
 
 // The line of an effect; none of one that is missing.
+#[tactic(auto, using(text::proofs::Printing::with_none))]
 fn put_line(
     n: u64,
     effect: Option<Effect>,
-    sent: &FrameBytes,
-    message: usize,
-    aims: &TargetBytes,
-    targets: usize,
-    out: &mut [u8],
-    at: usize,
-) -> usize
-    ensures bytes { out.new ≡ printed out.old at (effect_text n (message_of message sent.now) (targets_of targets aims.now) effect) }
-    ensures place { result ≡ behind out.old at (effect_text n (message_of message sent.now) (targets_of targets aims.now) effect) }
-    ensures short { length (effect_text n (message_of message sent.now) (targets_of targets aims.now) effect) ≤ room }
+    message: &[u8],
+    targets: &[u8],
+    printer: &mut Printer<'_>,
+)
+    requires { (length message.now ≤ frame_capacity) × (length targets.now ≤ capacity) }
+    ensures bytes { page printer.new ≡ with_text (page printer.old) (effect_text n message.now targets.now effect) }
+    ensures short { length (effect_text n message.now targets.now effect) ≤ room }
 {
-    match effect {
-        Some(effect) => put_effect(n, effect, sent, message, aims, targets, out, at),
-        None => at,
+    if let Some(effect) = effect {
+        put_effect(n, effect, message, targets, printer);
     }
 }
 
@@ -144,41 +99,40 @@ fn is_empty(effects: Effects) -> bool
         && effects.fourth.is_none()
 }
 
+#[tactic(auto, using(text::proofs::Printing::with_texts), unfolding(crate::specs::Effects::lines_text))]
 fn put_lines(
     n: u64,
     effects: Effects,
     sent: &FrameBytes,
     aims: &TargetBytes,
-    out: &mut [u8],
-    at: usize,
-) -> usize
-    ensures bytes { out.new ≡ printed out.old at (lines_text n effects sent.now aims.now) }
-    ensures place { result ≡ behind out.old at (lines_text n effects sent.now aims.now) }
+    printer: &mut Printer<'_>,
+)
+    ensures bytes { page printer.new ≡ with_text (page printer.old) (lines_text n effects sent.now aims.now) }
     ensures short { length (lines_text n effects sent.now aims.now) ≤ 4 * room }
 {
-    let message = effects.message;
-    let targets = effects.targets;
-    let p = put_line(n, effects.first, sent, message, aims, targets, out, at);
-    let p = put_line(n, effects.second, sent, message, aims, targets, out, p);
-    let p = put_line(n, effects.third, sent, message, aims, targets, out, p);
-    put_line(n, effects.fourth, sent, message, aims, targets, out, p)
+    let message = first(effects.message, sent);
+    let targets = first(effects.targets, aims);
+    put_line(n, effects.first, message, targets, printer);
+    put_line(n, effects.second, message, targets, printer);
+    put_line(n, effects.third, message, targets, printer);
+    put_line(n, effects.fourth, message, targets, printer);
 }
 
 // `sent` has the message's bytes, `aims` those of the targets.
+#[tactic(auto, unfolding(crate::specs::Effects::effects_text))]
 pub fn put_effects(
     n: u64,
     effects: Effects,
     sent: &FrameBytes,
     aims: &TargetBytes,
-    out: &mut [u8],
-    at: usize,
-) -> usize
-    ensures bytes { out.new ≡ printed out.old at (effects_text n effects sent.now aims.now) }
-    ensures place { result ≡ behind out.old at (effects_text n effects sent.now aims.now) }
+    printer: &mut Printer<'_>,
+)
+    ensures bytes { page printer.new ≡ with_text (page printer.old) (effects_text n effects sent.now aims.now) }
     ensures short { length (effects_text n effects sent.now aims.now) ≤ 4 * room }
 {
     if is_empty(effects) {
-        return journal_prints::put_none(n, out, at);
+        journal_prints::put_none(n, printer);
+    } else {
+        put_lines(n, effects, sent, aims, printer);
     }
-    put_lines(n, effects, sent, aims, out, at)
 }

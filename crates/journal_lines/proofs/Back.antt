@@ -106,7 +106,7 @@ start_fits at source relay circuit h0 h1 h2 h3 = ((refl, h0), ((refl, h1), ((ref
 
 module _ (take-bytes : ℕ → ℕ → List ℕ) (ws : List ℕ) (at : ℕ) (source : PeerId) (relay : PeerId) (circuit : ConnectionId) where
   abbrev StartMade : Type 0
-  StartMade = (start_of ws ≡ Some (Start at source relay circuit))
+  StartMade = (Some (start_of ws) ≡ Some (Start at source relay circuit))
 
   start_means : number (word ws 0) ∷ number (word ws 1) ∷ number (word ws 2) ∷ number (word ws 3) ∷ [] ≡ number at ∷ number source.0 ∷ number relay.0 ∷ number circuit.0 ∷ [] → StartMade
   start_means e =
@@ -138,7 +138,7 @@ up_fits at peer conn circuit l o pending own h0 h1 h2 h4 h5 h7 = ((refl, h0), ((
 
 module _ (take-bytes : ℕ → ℕ → List ℕ) (ws : List ℕ) (at : ℕ) (peer : PeerId) (conn : ConnectionId) (circuit : Bool) (l : Option ConnectionId) (o : Option (ConnectionId × StreamId)) (pending : Bool) (own : List ℕ) where
   abbrev UpMade : Type 0
-  UpMade = (up_of ws ≡ Some (Up at peer conn circuit l o pending (record { start = word ws 10; end = word ws 11 }))) × (take-bytes (word ws 10) (word ws 11) ≡ own)
+  UpMade = (Some (up_of ws) ≡ Some (Up at peer conn circuit l o pending (record { start = word ws 10; end = word ws 11 }))) × (take-bytes (word ws 10) (word ws 11) ≡ own)
 
   up_means : number (word ws 0) ∷ number (word ws 1) ∷ number (word ws 2) ∷ chosenWord (word ws 3) ∷ pick (eqb (word ws 4) 0) absent (some (word ws 5)) ∷ pick (eqb (word ws 6) 0) unpaired (pair (word ws 7) (word ws 8)) ∷ chosenWord (word ws 9) ∷ bytes (take-bytes (word ws 10) (word ws 11)) ∷ [] ≡ number at ∷ number peer.0 ∷ number conn.0 ∷ chosen circuit ∷ live_value l ∷ offer_value o ∷ chosen pending ∷ bytes own ∷ [] → UpMade
   up_means e =
@@ -212,7 +212,7 @@ tick_fits at l o own h0 h1 h2 h3 = ((refl, h0), (live_fits _ l h1, (offer_fits _
 
 module _ (take-bytes : ℕ → ℕ → List ℕ) (ws : List ℕ) (at : ℕ) (l : Option ConnectionId) (o : Option (ConnectionId × StreamId)) (own : List ℕ) where
   abbrev TickMade : Type 0
-  TickMade = (tick_of ws ≡ Some (Tick at l o (record { start = word ws 6; end = word ws 7 }))) × (take-bytes (word ws 6) (word ws 7) ≡ own)
+  TickMade = (Some (tick_of ws) ≡ Some (Tick at l o (record { start = word ws 6; end = word ws 7 }))) × (take-bytes (word ws 6) (word ws 7) ≡ own)
 
   tick_means : number (word ws 0) ∷ pick (eqb (word ws 1) 0) absent (some (word ws 2)) ∷ pick (eqb (word ws 3) 0) unpaired (pair (word ws 4) (word ws 5)) ∷ bytes (take-bytes (word ws 6) (word ws 7)) ∷ [] ≡ number at ∷ live_value l ∷ offer_value o ∷ bytes own ∷ [] → TickMade
   tick_means e =
@@ -244,7 +244,7 @@ wrote_fits at conn stream h0 h1 h2 = ((refl, h0), ((refl, h1), ((refl, h2), tt))
 
 module _ (take-bytes : ℕ → ℕ → List ℕ) (ws : List ℕ) (at : ℕ) (conn : ConnectionId) (stream : StreamId) where
   abbrev WroteMade : Type 0
-  WroteMade = (wrote_of ws ≡ Some (Wrote at conn stream))
+  WroteMade = (Some (wrote_of ws) ≡ Some (Wrote at conn stream))
 
   wrote_means : number (word ws 0) ∷ number (word ws 1) ∷ number (word ws 2) ∷ [] ≡ number at ∷ number conn.0 ∷ number stream.0 ∷ [] → WroteMade
   wrote_means e =
@@ -275,7 +275,7 @@ down_fits at peer conn h0 h1 h2 = ((refl, h0), ((refl, h1), ((refl, h2), tt)))
 
 module _ (take-bytes : ℕ → ℕ → List ℕ) (ws : List ℕ) (at : ℕ) (peer : PeerId) (conn : ConnectionId) where
   abbrev DownMade : Type 0
-  DownMade = (down_of ws ≡ Some (Down at peer conn))
+  DownMade = (Some (down_of ws) ≡ Some (Down at peer conn))
 
   down_means : number (word ws 0) ∷ number (word ws 1) ∷ number (word ws 2) ∷ [] ≡ number at ∷ number peer.0 ∷ number conn.0 ∷ [] → DownMade
   down_means e =
@@ -306,7 +306,7 @@ dial_fits at conn token id h0 h1 h2 h3 = ((refl, h0), ((refl, h1), ((refl, h2), 
 
 module _ (take-bytes : ℕ → ℕ → List ℕ) (ws : List ℕ) (at : ℕ) (conn : ConnectionId) (token : NatToken) (id : ConnectId) where
   abbrev DialMade : Type 0
-  DialMade = (dial_of ws ≡ Some (Dial at conn token id))
+  DialMade = (Some (dial_of ws) ≡ Some (Dial at conn token id))
 
   dial_means : number (word ws 0) ∷ number (word ws 1) ∷ number (word ws 2) ∷ number (word ws 3) ∷ [] ≡ number at ∷ number conn.0 ∷ number token.0 ∷ number id.0 ∷ [] → DialMade
   dial_means e =
@@ -338,7 +338,7 @@ forget_fits at conn h0 h1 = ((refl, h0), ((refl, h1), tt))
 
 module _ (take-bytes : ℕ → ℕ → List ℕ) (ws : List ℕ) (at : ℕ) (conn : ConnectionId) where
   abbrev ForgetMade : Type 0
-  ForgetMade = (forget_of ws ≡ Some (Forget at conn))
+  ForgetMade = (Some (forget_of ws) ≡ Some (Forget at conn))
 
   forget_means : number (word ws 0) ∷ number (word ws 1) ∷ [] ≡ number at ∷ number conn.0 ∷ [] → ForgetMade
   forget_means e =
@@ -368,7 +368,7 @@ attribute_fits at peer conn circuit h0 h1 h2 = ((refl, h0), ((refl, h1), ((refl,
 
 module _ (take-bytes : ℕ → ℕ → List ℕ) (ws : List ℕ) (at : ℕ) (peer : PeerId) (conn : ConnectionId) (circuit : Bool) where
   abbrev AttributeMade : Type 0
-  AttributeMade = (attribute_of ws ≡ Some (Attribute at peer conn circuit))
+  AttributeMade = (Some (attribute_of ws) ≡ Some (Attribute at peer conn circuit))
 
   attribute_means : number (word ws 0) ∷ number (word ws 1) ∷ number (word ws 2) ∷ chosenWord (word ws 3) ∷ [] ≡ number at ∷ number peer.0 ∷ number conn.0 ∷ chosen circuit ∷ [] → AttributeMade
   attribute_means e =
@@ -403,7 +403,7 @@ unfolding Fits FitsFrom mark_of InRange kind_of_value length_before
 settings_fit s h0 h1 h2 h3 h4 h5 = ((refl, h0), ((refl, h1), ((refl, h2), ((refl, h3), ((refl, h4), ((refl, h5), (bit_fits s.private, (bit_fits s.upgrades, tt))))))))
 
 module _ (take-bytes : ℕ → ℕ → List ℕ) (ws : List ℕ) (s : Settings) where
-  settings_mean : number (word ws 0) ∷ number (word ws 1) ∷ number (word ws 2) ∷ number (word ws 3) ∷ number (word ws 4) ∷ number (word ws 5) ∷ chosenWord (word ws 6) ∷ chosenWord (word ws 7) ∷ [] ≡ number s.handshake ∷ number s.upgrade ∷ number s.exchange ∷ number s.punch ∷ number s.interval ∷ number s.payload ∷ chosen s.private ∷ chosen s.upgrades ∷ [] → settings_in ws ≡ Some s
+  settings_mean : number (word ws 0) ∷ number (word ws 1) ∷ number (word ws 2) ∷ number (word ws 3) ∷ number (word ws 4) ∷ number (word ws 5) ∷ chosenWord (word ws 6) ∷ chosenWord (word ws 7) ∷ [] ≡ number s.handshake ∷ number s.upgrade ∷ number s.exchange ∷ number s.punch ∷ number s.interval ∷ number s.payload ∷ chosen s.private ∷ chosen s.upgrades ∷ [] → Some (settings_in ws) ≡ Some s
   settings_mean e =
       let x0 : word ws 0 ≡ s.handshake = cc in
       let x1 : word ws 1 ≡ s.upgrade = cc in
@@ -415,7 +415,7 @@ module _ (take-bytes : ℕ → ℕ → List ℕ) (ws : List ℕ) (s : Settings) 
       let x7 = chosen_is (word ws 7) s.upgrades cc in
       rw (x0, x1, x2, x3, x4, x5, x6, x7)
 
-  settings_made : values_from take-bytes false settings_form ws ≡ number s.handshake ∷ number s.upgrade ∷ number s.exchange ∷ number s.punch ∷ number s.interval ∷ number s.payload ∷ chosen s.private ∷ chosen s.upgrades ∷ [] → settings_in ws ≡ Some s
+  settings_made : values_from take-bytes false settings_form ws ≡ number s.handshake ∷ number s.upgrade ∷ number s.exchange ∷ number s.punch ∷ number s.interval ∷ number s.payload ∷ chosen s.private ∷ chosen s.upgrades ∷ [] → Some (settings_in ws) ≡ Some s
   unfolding values_from value_in mark_of
   settings_made e = settings_mean (simp get_or-drop at e)
 

@@ -1,12 +1,12 @@
 -- Lines from words, and the form that a line has. Assumes nothing.
-use mathlib.Core.Path.{◌≡◌, refl, sym, ◌∙◌}
+use mathlib.Core.Path.{◌≡◌, refl, sym, ◌∙◌, ap}
 use mathlib.Core.List.{List, []}
 use mathlib.Core.Bool.{true, false}
 use Prim.Native.Nat.{ℕ, ◌≤◌, ◌<◌}
 use native.Mathlib.Omega.{arith}
 use lib.ListN.{length, take, get_or}
 use lib.Seq.{get_or-take}
-use Rattle.std.specs.Prelude.{None, Option}
+use Rattle.std.specs.Prelude.{None, Option, Some}
 use Rattle.forms.specs.Forms.{kind_of as mark_of, Good, read_form, is_read, Stored}
 use Rattle.forms.specs.Texts.{count_from}
 use Rattle.forms.specs.Tables.{differ, differs_from, all_differ, Entry, said, forms_of, ShareNoLine}
@@ -15,6 +15,7 @@ use Rattle.forms.proofs.Tables.{share_no_line, said_at}
 use Rattle.journal_lines.specs.Forms.{forms, settings_form, start_form, up_form, input_form, tick_form, wrote_form, down_form, dial_form, forget_form, attribute_form}
 use Rattle.journal_lines.specs.Lines.{settings_in, settings_of, start_of, up_of, input_of, tick_of, wrote_of, down_of, dial_of, forget_of, attribute_of, calls, line_of}
 use Rattle.journal_lines.specs.declared.Line.{Line}
+use Rattle.vocabulary.specs.declared.Settings.{Settings}
 
 -- ---- a call looks at its own words alone
 
@@ -125,40 +126,40 @@ module _ (line : List ℕ) where
   read_by i n hi hn looks count before after e s l =
       sym (looks after) ∙ sym (said_by_lem line i (take n after) hi (is_good_lem (form_at i) line before after n e s count (omega arith)))
 
-  pub start_read : (before after : List ℕ) → true ≡ is_read (read_form start_form line) → Stored start_form line before after → length before ≡ 16 → start_of after ≡ line_of line
-  start_read = read_by 0 4 (omega arith) (omega arith) start_looks start_count
+  pub start_read : (before after : List ℕ) → true ≡ is_read (read_form start_form line) → Stored start_form line before after → length before ≡ 16 → Some (start_of after) ≡ line_of line
+  start_read = read_by 0 4 (omega arith) (omega arith) (λ s. ap (λ (l : Line). Some l) (start_looks s)) start_count
 
-  pub up_read : (before after : List ℕ) → true ≡ is_read (read_form up_form line) → Stored up_form line before after → length before ≡ 16 → up_of after ≡ line_of line
-  up_read = read_by 1 12 (omega arith) (omega arith) up_looks up_count
+  pub up_read : (before after : List ℕ) → true ≡ is_read (read_form up_form line) → Stored up_form line before after → length before ≡ 16 → Some (up_of after) ≡ line_of line
+  up_read = read_by 1 12 (omega arith) (omega arith) (λ s. ap (λ (l : Line). Some l) (up_looks s)) up_count
 
   pub input_read : (before after : List ℕ) → true ≡ is_read (read_form input_form line) → Stored input_form line before after → length before ≡ 16 → input_of after ≡ line_of line
   input_read = read_by 2 13 (omega arith) (omega arith) input_looks input_count
 
-  pub tick_read : (before after : List ℕ) → true ≡ is_read (read_form tick_form line) → Stored tick_form line before after → length before ≡ 16 → tick_of after ≡ line_of line
-  tick_read = read_by 3 8 (omega arith) (omega arith) tick_looks tick_count
+  pub tick_read : (before after : List ℕ) → true ≡ is_read (read_form tick_form line) → Stored tick_form line before after → length before ≡ 16 → Some (tick_of after) ≡ line_of line
+  tick_read = read_by 3 8 (omega arith) (omega arith) (λ s. ap (λ (l : Line). Some l) (tick_looks s)) tick_count
 
-  pub wrote_read : (before after : List ℕ) → true ≡ is_read (read_form wrote_form line) → Stored wrote_form line before after → length before ≡ 16 → wrote_of after ≡ line_of line
-  wrote_read = read_by 4 3 (omega arith) (omega arith) wrote_looks wrote_count
+  pub wrote_read : (before after : List ℕ) → true ≡ is_read (read_form wrote_form line) → Stored wrote_form line before after → length before ≡ 16 → Some (wrote_of after) ≡ line_of line
+  wrote_read = read_by 4 3 (omega arith) (omega arith) (λ s. ap (λ (l : Line). Some l) (wrote_looks s)) wrote_count
 
-  pub down_read : (before after : List ℕ) → true ≡ is_read (read_form down_form line) → Stored down_form line before after → length before ≡ 16 → down_of after ≡ line_of line
-  down_read = read_by 5 3 (omega arith) (omega arith) down_looks down_count
+  pub down_read : (before after : List ℕ) → true ≡ is_read (read_form down_form line) → Stored down_form line before after → length before ≡ 16 → Some (down_of after) ≡ line_of line
+  down_read = read_by 5 3 (omega arith) (omega arith) (λ s. ap (λ (l : Line). Some l) (down_looks s)) down_count
 
-  pub dial_read : (before after : List ℕ) → true ≡ is_read (read_form dial_form line) → Stored dial_form line before after → length before ≡ 16 → dial_of after ≡ line_of line
-  dial_read = read_by 6 4 (omega arith) (omega arith) dial_looks dial_count
+  pub dial_read : (before after : List ℕ) → true ≡ is_read (read_form dial_form line) → Stored dial_form line before after → length before ≡ 16 → Some (dial_of after) ≡ line_of line
+  dial_read = read_by 6 4 (omega arith) (omega arith) (λ s. ap (λ (l : Line). Some l) (dial_looks s)) dial_count
 
-  pub forget_read : (before after : List ℕ) → true ≡ is_read (read_form forget_form line) → Stored forget_form line before after → length before ≡ 16 → forget_of after ≡ line_of line
-  forget_read = read_by 7 2 (omega arith) (omega arith) forget_looks forget_count
+  pub forget_read : (before after : List ℕ) → true ≡ is_read (read_form forget_form line) → Stored forget_form line before after → length before ≡ 16 → Some (forget_of after) ≡ line_of line
+  forget_read = read_by 7 2 (omega arith) (omega arith) (λ s. ap (λ (l : Line). Some l) (forget_looks s)) forget_count
 
-  pub attribute_read : (before after : List ℕ) → true ≡ is_read (read_form attribute_form line) → Stored attribute_form line before after → length before ≡ 16 → attribute_of after ≡ line_of line
-  attribute_read = read_by 8 4 (omega arith) (omega arith) attribute_looks attribute_count
+  pub attribute_read : (before after : List ℕ) → true ≡ is_read (read_form attribute_form line) → Stored attribute_form line before after → length before ≡ 16 → Some (attribute_of after) ≡ line_of line
+  attribute_read = read_by 8 4 (omega arith) (omega arith) (λ s. ap (λ (l : Line). Some l) (attribute_looks s)) attribute_count
 
   pub none_read : false ≡ is_read (read_form start_form line) → false ≡ is_read (read_form up_form line) → false ≡ is_read (read_form input_form line) → false ≡ is_read (read_form tick_form line) → false ≡ is_read (read_form wrote_form line) → false ≡ is_read (read_form down_form line) → false ≡ is_read (read_form dial_form line) → false ≡ is_read (read_form forget_form line) → false ≡ is_read (read_form attribute_form line) → None ≡ line_of line
   unfolding line_of said
   none_read h0 h1 h2 h3 h4 h5 h6 h7 h8 = rw (is_bad (read_form start_form line) h0, is_bad (read_form up_form line) h1, is_bad (read_form input_form line) h2, is_bad (read_form tick_form line) h3, is_bad (read_form wrote_form line) h4, is_bad (read_form down_form line) h5, is_bad (read_form dial_form line) h6, is_bad (read_form forget_form line) h7, is_bad (read_form attribute_form line) h8)
 
-  pub settings_read : (before after : List ℕ) → true ≡ is_read (read_form settings_form line) → Stored settings_form line before after → length before ≡ 16 → settings_in after ≡ settings_of line
+  pub settings_read : (before after : List ℕ) → true ≡ is_read (read_form settings_form line) → Stored settings_form line before after → length before ≡ 16 → Some (settings_in after) ≡ settings_of line
   unfolding settings_of
-  settings_read before after e s l = sym (settings_looks after) ∙ rw (is_good_lem settings_form line before after 8 e s settings_count (omega arith))
+  settings_read before after e s l = ap (λ (x : Settings). Some x) (sym (settings_looks after)) ∙ rw (is_good_lem settings_form line before after 8 e s settings_count (omega arith))
 
   pub settings_unread : false ≡ is_read (read_form settings_form line) → None ≡ settings_of line
   unfolding settings_of

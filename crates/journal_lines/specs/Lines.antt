@@ -35,10 +35,9 @@ kind_of k = pick (eqb k 0) input.Ready (pick (eqb k 1) input.Data (pick (eqb k 2
 
 -- ---- the first line
 
-abbrev pub settings_in : List ℕ → Option Settings
+abbrev pub settings_in : List ℕ → Settings
 settings_in ws =
-    Some
-    (record {
+    record {
       handshake = word ws 0;
       upgrade = word ws 1;
       exchange = word ws 2;
@@ -47,19 +46,19 @@ settings_in ws =
       payload = word ws 5;
       private = is_second (word ws 6);
       upgrades = is_second (word ws 7);
-    })
+    }
 
 unfoldable pub settings_of : List ℕ → Option Settings
-settings_of line = tried (read_form settings_form line) settings_in None
+settings_of line = tried (read_form settings_form line) (λ ws. Some (settings_in ws)) None
 
 -- ---- the calls
 
-abbrev pub start_of : List ℕ → Option Line
-start_of ws = Some (Start (word ws 0) (record { 0 = word ws 1 }) (record { 0 = word ws 2 }) (record { 0 = word ws 3 }))
+abbrev pub start_of : List ℕ → Line
+start_of ws = Start (word ws 0) (record { 0 = word ws 1 }) (record { 0 = word ws 2 }) (record { 0 = word ws 3 })
 
-abbrev pub up_of : List ℕ → Option Line
+abbrev pub up_of : List ℕ → Line
 up_of ws =
-    Some (Up (word ws 0) (record { 0 = word ws 1 }) (record { 0 = word ws 2 }) (is_second (word ws 3)) (live_of (word ws 4) (word ws 5)) (offer_of (word ws 6) (word ws 7) (word ws 8)) (is_second (word ws 9)) (record { start = word ws 10; end = word ws 11 }))
+    Up (word ws 0) (record { 0 = word ws 1 }) (record { 0 = word ws 2 }) (is_second (word ws 3)) (live_of (word ws 4) (word ws 5)) (offer_of (word ws 6) (word ws 7) (word ws 8)) (is_second (word ws 9)) (record { start = word ws 10; end = word ws 11 })
 
 -- only the kind data, the second, may have bytes: none end where they start
 abbrev pub may_have_bytes : List ℕ → Bool
@@ -70,31 +69,36 @@ input_of ws =
     pick (may_have_bytes ws)
     (Some (Input (word ws 0) (record { 0 = word ws 1 }) (kind_of (word ws 2)) (record { start = word ws 3; end = word ws 4 }) (live_of (word ws 5) (word ws 6)) (offer_of (word ws 7) (word ws 8) (word ws 9)) (is_second (word ws 10)) (record { start = word ws 11; end = word ws 12 }))) None
 
-abbrev pub tick_of : List ℕ → Option Line
+abbrev pub tick_of : List ℕ → Line
 tick_of ws =
-    Some (Tick (word ws 0) (live_of (word ws 1) (word ws 2)) (offer_of (word ws 3) (word ws 4) (word ws 5)) (record { start = word ws 6; end = word ws 7 }))
+    Tick (word ws 0) (live_of (word ws 1) (word ws 2)) (offer_of (word ws 3) (word ws 4) (word ws 5)) (record { start = word ws 6; end = word ws 7 })
 
-abbrev pub wrote_of : List ℕ → Option Line
-wrote_of ws = Some (Wrote (word ws 0) (record { 0 = word ws 1 }) (record { 0 = word ws 2 }))
+abbrev pub wrote_of : List ℕ → Line
+wrote_of ws = Wrote (word ws 0) (record { 0 = word ws 1 }) (record { 0 = word ws 2 })
 
-abbrev pub down_of : List ℕ → Option Line
-down_of ws = Some (Down (word ws 0) (record { 0 = word ws 1 }) (record { 0 = word ws 2 }))
+abbrev pub down_of : List ℕ → Line
+down_of ws = Down (word ws 0) (record { 0 = word ws 1 }) (record { 0 = word ws 2 })
 
-abbrev pub dial_of : List ℕ → Option Line
-dial_of ws = Some (Dial (word ws 0) (record { 0 = word ws 1 }) (record { 0 = word ws 2 }) (record { 0 = word ws 3 }))
+abbrev pub dial_of : List ℕ → Line
+dial_of ws = Dial (word ws 0) (record { 0 = word ws 1 }) (record { 0 = word ws 2 }) (record { 0 = word ws 3 })
 
-abbrev pub forget_of : List ℕ → Option Line
-forget_of ws = Some (Forget (word ws 0) (record { 0 = word ws 1 }))
+abbrev pub forget_of : List ℕ → Line
+forget_of ws = Forget (word ws 0) (record { 0 = word ws 1 })
 
-abbrev pub attribute_of : List ℕ → Option Line
-attribute_of ws = Some (Attribute (word ws 0) (record { 0 = word ws 1 }) (record { 0 = word ws 2 }) (is_second (word ws 3)))
+abbrev pub attribute_of : List ℕ → Line
+attribute_of ws = Attribute (word ws 0) (record { 0 = word ws 1 }) (record { 0 = word ws 2 }) (is_second (word ws 3))
 
 abbrev pub calls : List (Entry (Option Line))
 calls =
-    record { form = start_form; means = start_of } ∷ record { form = up_form; means = up_of } ∷ record { form = input_form; means = input_of }
-    ∷ record { form = tick_form; means = tick_of } ∷ record { form = wrote_form; means = wrote_of } ∷ record { form = down_form; means = down_of }
-    ∷ record { form = dial_form; means = dial_of } ∷ record { form = forget_form; means = forget_of }
-    ∷ record { form = attribute_form; means = attribute_of } ∷ []
+    record { form = start_form; means = λ ws. Some (start_of ws) }
+    ∷ record { form = up_form; means = λ ws. Some (up_of ws) }
+    ∷ record { form = input_form; means = input_of }
+    ∷ record { form = tick_form; means = λ ws. Some (tick_of ws) }
+    ∷ record { form = wrote_form; means = λ ws. Some (wrote_of ws) }
+    ∷ record { form = down_form; means = λ ws. Some (down_of ws) }
+    ∷ record { form = dial_form; means = λ ws. Some (dial_of ws) }
+    ∷ record { form = forget_form; means = λ ws. Some (forget_of ws) }
+    ∷ record { form = attribute_form; means = λ ws. Some (attribute_of ws) } ∷ []
 
 -- a line of none of these forms is unknown
 unfoldable pub line_of : List ℕ → Option Line

@@ -107,6 +107,7 @@ fn offer(given: u64, conn: u64, stream: u64) -> Option<(ConnectionId, StreamId)>
     (given != 0).then_some((ConnectionId(conn), StreamId(stream)))
 }
 
+// A form hands a word out as its place in the choice: of an input's `kind`, ready, data, end, closed.
 fn kind(k: u64) -> StreamInput
     ensures { result ≡ kind_of k }
 {
@@ -120,7 +121,7 @@ fn kind(k: u64) -> StreamInput
 
 // ---- the first line
 
-fn settings(w: &Words) -> Option<Settings>
+fn settings(w: &Words) -> Settings
     ensures { result ≡ settings_in w.now }
 {
     let &[
@@ -134,7 +135,7 @@ fn settings(w: &Words) -> Option<Settings>
         upgrades,
         ..
     ] = w;
-    Some(Settings {
+    Settings {
         handshake,
         upgrade,
         exchange,
@@ -143,7 +144,7 @@ fn settings(w: &Words) -> Option<Settings>
         payload,
         private: private == 1,
         upgrades: upgrades == 1,
-    })
+    }
 }
 
 pub fn read_settings(line: &[u8]) -> Option<Settings>
@@ -155,7 +156,7 @@ pub fn read_settings(line: &[u8]) -> Option<Settings>
         line,
         &mut w,
     ) {
-        settings(&w)
+        Some(settings(&w))
     } else {
         None
     }
@@ -163,19 +164,19 @@ pub fn read_settings(line: &[u8]) -> Option<Settings>
 
 // ---- the calls: a function for each form, since read_call with all their fields would be too long to read
 
-fn start(w: &Words) -> Option<Line>
+fn start(w: &Words) -> Line
     ensures { result ≡ start_of w.now }
 {
     let &[at, source, relay, circuit, ..] = w;
-    Some(Line::Start {
+    Line::Start {
         at,
         source: PeerId(source),
         relay: PeerId(relay),
         circuit: ConnectionId(circuit),
-    })
+    }
 }
 
-fn up(w: &Words) -> Option<Line>
+fn up(w: &Words) -> Line
     ensures { result ≡ up_of w.now }
 {
     let &[
@@ -193,7 +194,7 @@ fn up(w: &Words) -> Option<Line>
         to,
         ..
     ] = w;
-    Some(Line::Up {
+    Line::Up {
         at,
         peer: PeerId(peer),
         conn: ConnectionId(conn),
@@ -202,10 +203,10 @@ fn up(w: &Words) -> Option<Line>
         offer: offer(has_offer, offer_conn, offer_stream),
         pending: pending == 1,
         own: digits_at(from, to),
-    })
+    }
 }
 
-// Only the kind data may have bytes.
+// Only the kind data may have bytes: of another with bytes it is no line.
 fn input(w: &Words) -> Option<Line>
     ensures { result ≡ input_of w.now }
 {
@@ -241,7 +242,7 @@ fn input(w: &Words) -> Option<Line>
     })
 }
 
-fn tick(w: &Words) -> Option<Line>
+fn tick(w: &Words) -> Line
     ensures { result ≡ tick_of w.now }
 {
     let &[
@@ -255,68 +256,68 @@ fn tick(w: &Words) -> Option<Line>
         to,
         ..
     ] = w;
-    Some(Line::Tick {
+    Line::Tick {
         at,
         live: live(has_live, live_conn),
         offer: offer(has_offer, offer_conn, offer_stream),
         own: digits_at(from, to),
-    })
+    }
 }
 
-fn wrote(w: &Words) -> Option<Line>
+fn wrote(w: &Words) -> Line
     ensures { result ≡ wrote_of w.now }
 {
     let &[at, conn, stream, ..] = w;
-    Some(Line::Wrote {
+    Line::Wrote {
         at,
         conn: ConnectionId(conn),
         stream: StreamId(stream),
-    })
+    }
 }
 
-fn down(w: &Words) -> Option<Line>
+fn down(w: &Words) -> Line
     ensures { result ≡ down_of w.now }
 {
     let &[at, peer, conn, ..] = w;
-    Some(Line::Down {
+    Line::Down {
         at,
         peer: PeerId(peer),
         conn: ConnectionId(conn),
-    })
+    }
 }
 
-fn dial(w: &Words) -> Option<Line>
+fn dial(w: &Words) -> Line
     ensures { result ≡ dial_of w.now }
 {
     let &[at, conn, token, id, ..] = w;
-    Some(Line::Dial {
+    Line::Dial {
         at,
         conn: ConnectionId(conn),
         token: NatToken(token),
         id: ConnectId(id),
-    })
+    }
 }
 
-fn forget(w: &Words) -> Option<Line>
+fn forget(w: &Words) -> Line
     ensures { result ≡ forget_of w.now }
 {
     let &[at, conn, ..] = w;
-    Some(Line::Forget {
+    Line::Forget {
         at,
         conn: ConnectionId(conn),
-    })
+    }
 }
 
-fn attribute(w: &Words) -> Option<Line>
+fn attribute(w: &Words) -> Line
     ensures { result ≡ attribute_of w.now }
 {
     let &[at, peer, conn, via, ..] = w;
-    Some(Line::Attribute {
+    Line::Attribute {
         at,
         peer: PeerId(peer),
         conn: ConnectionId(conn),
         circuit: via == 1,
-    })
+    }
 }
 
 // A line behind the first. The forms share no line; those that most lines have are tried first.
@@ -325,7 +326,7 @@ pub fn read_call(line: &[u8]) -> Option<Line>
 {
     let mut w = [0; 16];
     if forms::read_form(b"do=tick at=# live=* offer=: own=%", line, &mut w) {
-        tick(&w)
+        Some(tick(&w))
     } else if forms::read_form(
         b"do=input at=# stream=# kind=(ready/data/end/closed) data=% live=* offer=: pending=(0/1) own=%",
         line,
@@ -337,23 +338,23 @@ pub fn read_call(line: &[u8]) -> Option<Line>
         line,
         &mut w,
     ) {
-        up(&w)
+        Some(up(&w))
     } else if forms::read_form(
         b"do=attribute at=# peer=# conn=# via=(direct/circuit)",
         line,
         &mut w,
     ) {
-        attribute(&w)
+        Some(attribute(&w))
     } else if forms::read_form(b"do=dial at=# conn=# token=# id=#", line, &mut w) {
-        dial(&w)
+        Some(dial(&w))
     } else if forms::read_form(b"do=forget at=# conn=#", line, &mut w) {
-        forget(&w)
+        Some(forget(&w))
     } else if forms::read_form(b"do=down at=# peer=# conn=#", line, &mut w) {
-        down(&w)
+        Some(down(&w))
     } else if forms::read_form(b"do=start at=# source=# relay=# circuit=#", line, &mut w) {
-        start(&w)
+        Some(start(&w))
     } else if forms::read_form(b"do=wrote at=# conn=# stream=#", line, &mut w) {
-        wrote(&w)
+        Some(wrote(&w))
     } else {
         None
     }

@@ -11,11 +11,11 @@ use Rattle.prelude.specs.Choice.{pick}
 use Rattle.prelude.specs.Numbers.{max_u64}
 use Rattle.text.specs.Hexadecimal.{hexadecimal}
 use Rattle.text.specs.Words.{length_before}
-use Rattle.text.proofs.Printing.{fits}
+use Rattle.text.proofs.Printing.{fits, hexadecimal_length}
 use Rattle.forms.specs.Forms.{kind_of, split, on_first}
 use Rattle.forms.specs.Texts.{number, bytes, word, text, kind_of_value}
 use Rattle.forms.specs.Room.{longest, room_from, room_of, KindsFrom, AllAtMost}
-use Rattle.forms.proofs.Room.{hexadecimal_length, text_short}
+use Rattle.forms.proofs.Room.{text_short}
 use Rattle.wire.specs.Lists.{size_at, opens, along, entries}
 use Rattle.wire.proofs.EntryByEntry.{opens_long}
 use Rattle.refusal.specs.Number.{number_of}

@@ -1,168 +1,158 @@
-// What the journal prints: one line for each output, into a lent buffer. Each function answers the place behind its text; what the
-// buffer has no room for is left out.
+// What the journal prints: one line for each output; what its buffer has no room for is left out.
 #![tactic(auto)]
 
 ghost use Rattle.std.specs.Prelude.{◌≡◌, List, [], ◌∷◌, ℕ, ◌*◌, ◌≤◌, length};
 ghost use Rattle.wire.specs.Lists.{entries};
-ghost use Rattle.text.specs.Printed.{printed, behind};
-ghost use Rattle.forms.specs.Texts.{number, word};
+ghost use Rattle.text.specs.Printed.{page, with_text};
+ghost use Rattle.forms.specs.Texts.{number, word, values_in};
 ghost use Rattle.journal_prints.specs.Forms.{owned_form, named_form};
-ghost use Rattle.journal_prints.specs.Outputs.{with_commas, targets_text, path_place, owned_text, line_text, none_text, path_text, open_text, send_text, reset_text, burst_text, close_text, upgrade_text, attribution_text, attributed_text, refused_text};
+ghost use Rattle.journal_prints.specs.Outputs.{with_commas, targets_text, path_place, owned_text, line_text, none_text, path_text, open_text, send_text, reset_text, burst_text, close_text, upgrade_text, attributed_text, refused_text};
 ghost use Rattle.journal_prints.specs.Room.{room, Output, Whole};
 
 use ids::{ConnectionId, PeerId, StreamId};
 use path::{Attribution, Owner, Path};
 use refusal::Refusal;
+use text::Printer;
 use wire::EntryIter;
 
-pub fn put_none(n: u64, out: &mut [u8], at: usize) -> usize
-    ensures bytes { out.new ≡ printed out.old at (none_text n) }
-    ensures place { result ≡ behind out.old at (none_text n) }
+// A line by a form: the values that words stand for, bytes from a source, and a line feed.
+#[tactic(auto, using(text::proofs::Printing::with_texts))]
+fn put_line(form: &[u8], words: &[u64], source: &[u8], printer: &mut Printer<'_>)
+    ensures { page printer.new ≡ with_text (page printer.old) (line_text form.now (values_in source.now form.now words.now)) }
 {
-    let words = [n];
-    let p = forms::put_form(b"n=# out=none", &words, b"", out, at);
-    text::put_byte(b'\n', out, p)
+    forms::put_form(form, words, source, printer);
+    printer.put_byte(b'\n');
 }
 
-pub fn put_path(
-    n: u64,
-    peer: PeerId,
-    relay: PeerId,
-    conn: ConnectionId,
-    out: &mut [u8],
-    at: usize,
-) -> usize
-    ensures bytes { out.new ≡ printed out.old at (path_text n peer relay conn) }
-    ensures place { result ≡ behind out.old at (path_text n peer relay conn) }
+#[tactic(auto, unfolding(forms::specs::Texts::values_in, forms::specs::Texts::values_from, forms::specs::Texts::value_in, forms::specs::Forms::kind_of))]
+pub fn put_none(n: u64, printer: &mut Printer<'_>)
+    ensures { page printer.new ≡ with_text (page printer.old) (none_text n) }
 {
-    let words = [n, peer.0, relay.0, conn.0];
-    let p = forms::put_form(b"n=# out=path peer=# relay=# conn=#", &words, b"", out, at);
-    text::put_byte(b'\n', out, p)
+    put_line(b"n=# out=none", &[n], b"", printer);
 }
 
-pub fn put_open(n: u64, conn: ConnectionId, stream: StreamId, out: &mut [u8], at: usize) -> usize
-    ensures bytes { out.new ≡ printed out.old at (open_text n conn stream) }
-    ensures place { result ≡ behind out.old at (open_text n conn stream) }
+#[tactic(auto, unfolding(forms::specs::Texts::values_in, forms::specs::Texts::values_from, forms::specs::Texts::value_in, forms::specs::Forms::kind_of))]
+pub fn put_path(n: u64, peer: PeerId, relay: PeerId, conn: ConnectionId, printer: &mut Printer<'_>)
+    ensures { page printer.new ≡ with_text (page printer.old) (path_text n peer relay conn) }
 {
-    let words = [n, conn.0, stream.0];
-    let p = forms::put_form(b"n=# out=open conn=# stream=#", &words, b"", out, at);
-    text::put_byte(b'\n', out, p)
+    put_line(
+        b"n=# out=path peer=# relay=# conn=#",
+        &[n, peer.0, relay.0, conn.0],
+        b"",
+        printer,
+    );
 }
 
+#[tactic(auto, unfolding(forms::specs::Texts::values_in, forms::specs::Texts::values_from, forms::specs::Texts::value_in, forms::specs::Forms::kind_of))]
+pub fn put_open(n: u64, conn: ConnectionId, stream: StreamId, printer: &mut Printer<'_>)
+    ensures { page printer.new ≡ with_text (page printer.old) (open_text n conn stream) }
+{
+    put_line(
+        b"n=# out=open conn=# stream=#",
+        &[n, conn.0, stream.0],
+        b"",
+        printer,
+    );
+}
+
+#[tactic(auto, using(crate::proofs::Words::send_text))]
 pub fn put_send(
     n: u64,
     conn: ConnectionId,
     stream: StreamId,
     message: &[u8],
-    out: &mut [u8],
-    at: usize,
-) -> usize
-    ensures bytes { out.new ≡ printed out.old at (send_text n conn stream message.now) }
-    ensures place { result ≡ behind out.old at (send_text n conn stream message.now) }
+    printer: &mut Printer<'_>,
+)
+    ensures { page printer.new ≡ with_text (page printer.old) (send_text n conn stream message.now) }
 {
-    let words = [n, conn.0, stream.0, 0, message.len() as u64];
-    let p = forms::put_form(
+    put_line(
         b"n=# out=send conn=# stream=# data=%",
-        &words,
+        &[n, conn.0, stream.0, 0, message.len() as u64],
         message,
-        out,
-        at,
+        printer,
     );
-    text::put_byte(b'\n', out, p)
 }
 
-pub fn put_reset(n: u64, conn: ConnectionId, stream: StreamId, out: &mut [u8], at: usize) -> usize
-    ensures bytes { out.new ≡ printed out.old at (reset_text n conn stream) }
-    ensures place { result ≡ behind out.old at (reset_text n conn stream) }
+#[tactic(auto, unfolding(forms::specs::Texts::values_in, forms::specs::Texts::values_from, forms::specs::Texts::value_in, forms::specs::Forms::kind_of))]
+pub fn put_reset(n: u64, conn: ConnectionId, stream: StreamId, printer: &mut Printer<'_>)
+    ensures { page printer.new ≡ with_text (page printer.old) (reset_text n conn stream) }
 {
-    let words = [n, conn.0, stream.0];
-    let p = forms::put_form(b"n=# out=reset conn=# stream=#", &words, b"", out, at);
-    text::put_byte(b'\n', out, p)
+    put_line(
+        b"n=# out=reset conn=# stream=#",
+        &[n, conn.0, stream.0],
+        b"",
+        printer,
+    );
 }
 
 // The addresses left of a list, a comma before each.
-fn put_others(left: EntryIter<'_>, out: &mut [u8], at: usize) -> usize
-    ensures bytes { out.new ≡ printed out.old at (with_commas left.entry) }
-    ensures place { result ≡ behind out.old at (with_commas left.entry) }
+fn put_others(left: EntryIter<'_>, printer: &mut Printer<'_>)
+    ensures { page printer.new ≡ with_text (page printer.old) (with_commas left.entry) }
 {
-    let mut p = at;
     for address in left {
-        p = text::put_byte(b',', out, p);
-        p = text::put_hexadecimal(address, out, p);
+        printer.put_byte(b',');
+        printer.put_hexadecimal(address);
     }
-    p
 }
 
 // The addresses of a list in order, commas between; of a broken list those before the break.
-fn put_targets(list: &[u8], out: &mut [u8], at: usize) -> usize
-    ensures bytes { out.new ≡ printed out.old at (targets_text (entries list.now)) }
-    ensures place { result ≡ behind out.old at (targets_text (entries list.now)) }
+#[tactic(auto, using(text::proofs::Printing::with_texts, text::proofs::Printing::with_none), unfolding(crate::specs::Outputs::targets_text))]
+fn put_targets(list: &[u8], printer: &mut Printer<'_>)
+    ensures { page printer.new ≡ with_text (page printer.old) (targets_text (entries list.now)) }
 {
     let mut left = wire::entries(list);
-    match left.next() {
-        None => at,
-        Some(first) => {
-            let p = text::put_hexadecimal(first, out, at);
-            put_others(left, out, p)
-        }
+    if let Some(first) = left.next() {
+        printer.put_hexadecimal(first);
+        put_others(left, printer);
     }
 }
 
 // `targets` is an address list.
-pub fn put_burst(
-    n: u64,
-    times: u64,
-    payload: u64,
-    targets: &[u8],
-    out: &mut [u8],
-    at: usize,
-) -> usize
-    ensures bytes { out.new ≡ printed out.old at (burst_text n times payload targets.now) }
-    ensures place { result ≡ behind out.old at (burst_text n times payload targets.now) }
+pub fn put_burst(n: u64, times: u64, payload: u64, targets: &[u8], printer: &mut Printer<'_>)
+    ensures { page printer.new ≡ with_text (page printer.old) (burst_text n times payload targets.now) }
 {
     let words = [n, times, payload];
-    let p = forms::put_form(
+    forms::put_form(
         b"n=# out=burst times=# payload=# target=",
         &words,
         b"",
-        out,
-        at,
+        printer,
     );
-    let p = put_targets(targets, out, p);
-    text::put_byte(b'\n', out, p)
+    put_targets(targets, printer);
+    printer.put_byte(b'\n');
 }
 
-pub fn put_close(n: u64, conn: ConnectionId, out: &mut [u8], at: usize) -> usize
-    ensures bytes { out.new ≡ printed out.old at (close_text n conn) }
-    ensures place { result ≡ behind out.old at (close_text n conn) }
+#[tactic(auto, unfolding(forms::specs::Texts::values_in, forms::specs::Texts::values_from, forms::specs::Texts::value_in, forms::specs::Forms::kind_of))]
+pub fn put_close(n: u64, conn: ConnectionId, printer: &mut Printer<'_>)
+    ensures { page printer.new ≡ with_text (page printer.old) (close_text n conn) }
 {
-    let words = [n, conn.0];
-    let p = forms::put_form(b"n=# out=close conn=#", &words, b"", out, at);
-    text::put_byte(b'\n', out, p)
+    put_line(b"n=# out=close conn=#", &[n, conn.0], b"", printer);
 }
 
+#[tactic(auto, unfolding(forms::specs::Texts::values_in, forms::specs::Texts::values_from, forms::specs::Texts::value_in, forms::specs::Forms::kind_of))]
 pub fn put_upgrade(
     n: u64,
     peer: PeerId,
     old: ConnectionId,
     new: ConnectionId,
-    out: &mut [u8],
-    at: usize,
-) -> usize
-    ensures bytes { out.new ≡ printed out.old at (upgrade_text n peer old new) }
-    ensures place { result ≡ behind out.old at (upgrade_text n peer old new) }
+    printer: &mut Printer<'_>,
+)
+    ensures { page printer.new ≡ with_text (page printer.old) (upgrade_text n peer old new) }
 {
-    let words = [n, peer.0, old.0, new.0];
-    let p = forms::put_form(b"n=# out=upgrade peer=# old=# new=#", &words, b"", out, at);
-    text::put_byte(b'\n', out, p)
+    put_line(
+        b"n=# out=upgrade peer=# old=# new=#",
+        &[n, peer.0, old.0, new.0],
+        b"",
+        printer,
+    );
 }
 
-// The place of a path's word.
+// A form takes a word as its place in the choice: of `path`, relayed, punched, direct, none.
 fn path_place(path: Path) -> u64
     ensures { result ≡ path_place path }
 {
     match path {
-        Path::Relayed { relay: _ } => 0,
+        Path::Relayed { .. } => 0,
         Path::Punched => 1,
         Path::Direct => 2,
     }
@@ -172,75 +162,60 @@ fn path_place(path: Path) -> u64
 const NO_PATH: u64 = 3;
 
 // A connection of an attempt.
-fn put_owned(n: u64, place: u64, id: u64, out: &mut [u8], at: usize) -> usize
-    ensures bytes { out.new ≡ printed out.old at (line_text owned_form (number n ∷ word place ∷ number id ∷ [])) }
-    ensures place { result ≡ behind out.old at (line_text owned_form (number n ∷ word place ∷ number id ∷ [])) }
+#[tactic(auto, unfolding(forms::specs::Texts::values_in, forms::specs::Texts::values_from, forms::specs::Texts::value_in, forms::specs::Forms::kind_of))]
+fn put_owned(n: u64, place: u64, id: u64, printer: &mut Printer<'_>)
+    ensures { page printer.new ≡ with_text (page printer.old) (line_text owned_form (number n ∷ word place ∷ number id ∷ [])) }
 {
-    let words = [n, place, id];
-    let p = forms::put_form(
+    put_line(
         b"n=# out=attributed path=(relayed/punched/direct/none) owner=#",
-        &words,
+        &[n, place, id],
         b"",
-        out,
-        at,
+        printer,
     );
-    text::put_byte(b'\n', out, p)
 }
 
 // One of no attempt.
-fn put_named(n: u64, place: u64, owner: u64, out: &mut [u8], at: usize) -> usize
-    ensures bytes { out.new ≡ printed out.old at (line_text named_form (number n ∷ word place ∷ word owner ∷ [])) }
-    ensures place { result ≡ behind out.old at (line_text named_form (number n ∷ word place ∷ word owner ∷ [])) }
+#[tactic(auto, unfolding(forms::specs::Texts::values_in, forms::specs::Texts::values_from, forms::specs::Texts::value_in, forms::specs::Forms::kind_of))]
+fn put_named(n: u64, place: u64, owner: u64, printer: &mut Printer<'_>)
+    ensures { page printer.new ≡ with_text (page printer.old) (line_text named_form (number n ∷ word place ∷ word owner ∷ [])) }
 {
-    let words = [n, place, owner];
-    let p = forms::put_form(
+    put_line(
         b"n=# out=attributed path=(relayed/punched/direct/none) owner=(inbound/none)",
-        &words,
+        &[n, place, owner],
         b"",
-        out,
-        at,
+        printer,
     );
-    text::put_byte(b'\n', out, p)
 }
 
-fn put_owner(n: u64, place: u64, owner: Option<Owner>, out: &mut [u8], at: usize) -> usize
-    ensures bytes { out.new ≡ printed out.old at (owned_text n place owner) }
-    ensures place { result ≡ behind out.old at (owned_text n place owner) }
+fn put_owner(n: u64, place: u64, owner: Option<Owner>, printer: &mut Printer<'_>)
+    ensures { page printer.new ≡ with_text (page printer.old) (owned_text n place owner) }
 {
     match owner {
-        Some(Owner::Attempt(id)) => put_owned(n, place, id.0, out, at),
-        Some(Owner::Inbound) => put_named(n, place, 0, out, at),
-        None => put_named(n, place, 1, out, at),
+        Some(Owner::Attempt(id)) => put_owned(n, place, id.0, printer),
+        Some(Owner::Inbound) => put_named(n, place, 0, printer),
+        None => put_named(n, place, 1, printer),
     }
 }
 
-fn put_attribution(n: u64, found: Attribution, out: &mut [u8], at: usize) -> usize
-    ensures bytes { out.new ≡ printed out.old at (attribution_text n found) }
-    ensures place { result ≡ behind out.old at (attribution_text n found) }
-{
-    let path = found.path;
-    let owner = found.owner;
-    let place = path_place(path);
-    put_owner(n, place, owner, out, at)
-}
-
-pub fn put_attributed(n: u64, found: Option<Attribution>, out: &mut [u8], at: usize) -> usize
-    ensures bytes { out.new ≡ printed out.old at (attributed_text n found) }
-    ensures place { result ≡ behind out.old at (attributed_text n found) }
+pub fn put_attributed(n: u64, found: Option<Attribution>, printer: &mut Printer<'_>)
+    ensures { page printer.new ≡ with_text (page printer.old) (attributed_text n found) }
 {
     match found {
-        Some(a) => put_attribution(n, a, out, at),
-        None => put_owner(n, NO_PATH, None, out, at),
+        Some(found) => put_owner(n, path_place(found.path), found.owner, printer),
+        None => put_owner(n, NO_PATH, None, printer),
     }
 }
 
-pub fn put_refused(n: u64, refusal: Refusal, out: &mut [u8], at: usize) -> usize
-    ensures bytes { out.new ≡ printed out.old at (refused_text n refusal) }
-    ensures place { result ≡ behind out.old at (refused_text n refusal) }
+#[tactic(auto, unfolding(forms::specs::Texts::values_in, forms::specs::Texts::values_from, forms::specs::Texts::value_in, forms::specs::Forms::kind_of))]
+pub fn put_refused(n: u64, refusal: Refusal, printer: &mut Printer<'_>)
+    ensures { page printer.new ≡ with_text (page printer.old) (refused_text n refusal) }
 {
-    let words = [n, refusal.number()];
-    let p = forms::put_form(b"n=# out=refused why=#", &words, b"", out, at);
-    text::put_byte(b'\n', out, p)
+    put_line(
+        b"n=# out=refused why=#",
+        &[n, refusal.number()],
+        b"",
+        printer,
+    );
 }
 
 // ---- room

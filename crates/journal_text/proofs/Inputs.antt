@@ -12,15 +12,14 @@ use Rattle.text.specs.Printed.{behind}
 use Rattle.text.proofs.Printing.{length_kept, fits}
 use Rattle.lines.specs.Lines.{longest}
 use Rattle.line_program.specs.declared.Reading.{Reading}
-use Rattle.line_program.specs.Reads.{left, feed, NextLine}
-use Rattle.line_program.specs.Waits.{is_line}
+use Rattle.line_program.specs.Reads.{left, feed, NextLine, has_feed, has_more}
 use Rattle.line_program.proofs.GoingOn.{apart}
-use Rattle.rows.specs.Words.{ledger_words}
-use Rattle.ledger.specs.Ledger.{PathLedger, tables_of, empty_ledger}
-use Rattle.carried.specs.Carried.{no_frame, no_aims}
-use Rattle.journal_calls.specs.Calls.{Journal, state_of, whole, new_journal}
+use Rattle.ledger.specs.Ledger.{tables_of, empty_ledger}
+use Rattle.journal_calls.specs.declared.State.{State}
+use Rattle.journal_calls.specs.declared.Memory.{Memory}
+use Rattle.journal_calls.specs.Calls.{Journal, state_of, whole, blank_memory, new_journal}
 use Rattle.journal_turns.specs.Turns.{line_turn}
-use Rattle.journal_text.specs.Texts.{first_of, is_good, opened, opening_text}
+use Rattle.journal_text.specs.Texts.{first_of, is_good, opened, state_in, opening_text}
 use Rattle.journal_text.specs.Journals.{cut, lines_of, bytes_of, endless}
 use Rattle.journal_text.proofs.Cutting.{lines as law, long_same, long_first}
 use Rattle.vocabulary.specs.declared.Settings.{Settings}
@@ -57,39 +56,30 @@ module _ {line had block after : List ℕ} {r : Reading} (x : NextLine line had 
           same (take r.used after) x.read.text (omega (arith, kept, fills, length-take r.used after)) (omega arith)
       go false e = rw (x.read.bytes, x.read.place, fits line x.read.text (ltb-false _ _ e))
 
-  pub same_line : (j : Journal) (reply : List ℕ) → line_turn j reply (take r.used after) r.ended ≡ line_turn j reply x.read.text r.ended
+  pub same_line : (j : Journal) (reply : List ℕ) → line_turn j reply (take r.used after) (has_feed r.end) ≡ line_turn j reply x.read.text (has_feed r.end)
   same_line j reply =
-      by_buffer (λ (t : List ℕ). line_turn j reply t r.ended)
-      (λ (a b : List ℕ) (h : longest ≤ length a) (k : longest ≤ length b). long_same j reply a b r.ended h k)
+      by_buffer (λ (t : List ℕ). line_turn j reply t (has_feed r.end))
+      (λ (a b : List ℕ) (h : longest ≤ length a) (k : longest ≤ length b). long_same j reply a b (has_feed r.end) h k)
 
-  pub same_first : first_of (take r.used after) r.ended ≡ first_of x.read.text r.ended
+  pub same_first : first_of (take r.used after) (has_feed r.end) ≡ first_of x.read.text (has_feed r.end)
   same_first =
-      by_buffer (λ (t : List ℕ). first_of t r.ended)
-      (λ (a b : List ℕ) (h : longest ≤ length a) (k : longest ≤ length b). long_first a b r.ended h k)
+      by_buffer (λ (t : List ℕ). first_of t (has_feed r.end))
+      (λ (a b : List ℕ) (h : longest ≤ length a) (k : longest ≤ length b). long_first a b (has_feed r.end) h k)
 
   -- the buffer has a byte where the text has one
   pub some : ltb 0 r.used ≡ true → 0 < length x.read.text
   some e = omega (arith, ltb-true 0 r.used e, fills)
 
   -- where it has none, and no line feed ended the line, the input is at its end
-  pub at_end : r.ended ≡ false → ltb 0 r.used ≡ false → (r.more ≡ false) × (x.read.text ++ left block r.from r.until ≡ [])
-  at_end e u = go r.more refl
+  pub at_end : has_feed r.end ≡ false → ltb 0 r.used ≡ false → (has_more r.end ≡ false) × (x.read.text ++ left block r.from r.until ≡ [])
+  at_end e u = go (has_more r.end) refl
     where
       z : length x.read.text ≡ 0
       z = omega (arith, ltb-false 0 r.used u, fills)
 
-      go : (t : Bool) → r.more ≡ t → (r.more ≡ false) × (x.read.text ++ left block r.from r.until ≡ [])
+      go : (t : Bool) → has_more r.end ≡ t → (has_more r.end ≡ false) × (x.read.text ++ left block r.from r.until ≡ [])
       go true m = absurd (omega (arith, z, x.long e m))
       go false m = (m, rw (none x.read.text z) (x.read.dry m).1)
-
--- a line that a line feed ended was read
-pub there : {line had block after : List ℕ} {r : Reading} → NextLine line had block after r → r.ended ≡ true
-    → is_line r.failed r.ended r.used ≡ true
-there {r = r} x e = go r.failed refl
-  where
-    go : (t : Bool) → r.failed ≡ t → is_line t r.ended r.used ≡ true
-    go true f = apart (sym e ∙ (x.read.dry (x.read.failing f)).0)
-    go false f = rw e
 
 -- ---- one line more
 
@@ -113,16 +103,16 @@ bytes_more (x ∷ xs) l = rw (bytes_more xs l) (sym (append_assoc (x.0 ++ feed x
 -- the lines so far, and what was read behind them
 module _ (lines : List Line) {line mid block after : List ℕ} {r : Reading} (x : NextLine line mid block after r) where
   abbrev l : Line
-  l = (x.read.text, r.ended)
+  l = (x.read.text, has_feed r.end)
 
   abbrev rest : List ℕ
   rest = left block r.from r.until
 
-  pub more_long : length (bytes_of (lines ++ (l ∷ []))) ≡ length (bytes_of lines) + (length x.read.text + length (feed r.ended))
+  pub more_long : length (bytes_of (lines ++ (l ∷ []))) ≡ length (bytes_of lines) + (length x.read.text + length (feed (has_feed r.end)))
   more_long = rw bytes_more (simp length-append)
 
   module _ (had brought : List ℕ) (whole : had ++ brought ≡ bytes_of lines ++ mid) where
-    grown : had ++ (brought ++ x.read.brought) ≡ bytes_of lines ++ (x.read.text ++ (feed r.ended ++ rest))
+    grown : had ++ (brought ++ x.read.brought) ≡ bytes_of lines ++ (x.read.text ++ (feed (has_feed r.end) ++ rest))
     grown =
         sym (append_assoc had brought x.read.brought)
         ∙ ap (λ (b : List ℕ). b ++ x.read.brought) whole
@@ -134,16 +124,16 @@ module _ (lines : List Line) {line mid block after : List ℕ} {r : Reading} (x 
     more_whole = grown ∙ rw bytes_more (simp append_assoc)
 
     -- it is none
-    pub left_whole : r.ended ≡ false → had ++ (brought ++ x.read.brought) ≡ bytes_of lines ++ (x.read.text ++ rest)
+    pub left_whole : has_feed r.end ≡ false → had ++ (brought ++ x.read.brought) ≡ bytes_of lines ++ (x.read.text ++ rest)
     left_whole e = grown ∙ ap (λ (d : Bool). bytes_of lines ++ (x.read.text ++ (feed d ++ rest))) e
 
   -- a line feed ended it
-  pub more_ended : Ended lines → r.ended ≡ true → Ended (lines ++ (l ∷ []))
+  pub more_ended : Ended lines → has_feed r.end ≡ true → Ended (lines ++ (l ∷ []))
   more_ended ended e s =
       ap lines_of
       (ap (λ (b : List ℕ). b ++ s) (bytes_more lines l)
-      ∙ append_assoc (bytes_of lines) (x.read.text ++ feed r.ended) s
-      ∙ ap (λ (b : List ℕ). bytes_of lines ++ b) (append_assoc x.read.text (feed r.ended) s)
+      ∙ append_assoc (bytes_of lines) (x.read.text ++ feed (has_feed r.end)) s
+      ∙ ap (λ (b : List ℕ). bytes_of lines ++ b) (append_assoc x.read.text (feed (has_feed r.end)) s)
       ∙ ap (λ (d : Bool). bytes_of lines ++ (x.read.text ++ (feed d ++ s))) e)
       ∙ ended (x.read.text ++ (10 ∷ s))
       ∙ ap (λ (b : List Line). lines ++ b) (law.ended x.read.text s x.read.plain)
@@ -151,7 +141,7 @@ module _ (lines : List Line) {line mid block after : List ℕ} {r : Reading} (x 
       ∙ sym (append_assoc lines (l ∷ []) (lines_of s))
 
   -- none did, and it is the last
-  pub last_cut : Ended lines → r.ended ≡ false → 0 < length x.read.text → lines_of (bytes_of (lines ++ (l ∷ []))) ≡ lines ++ (l ∷ [])
+  pub last_cut : Ended lines → has_feed r.end ≡ false → 0 < length x.read.text → lines_of (bytes_of (lines ++ (l ∷ []))) ≡ lines ++ (l ∷ [])
   last_cut ended e h =
       ap lines_of
       (bytes_more lines l
@@ -162,10 +152,10 @@ module _ (lines : List Line) {line mid block after : List ℕ} {r : Reading} (x 
       ∙ ap (λ (d : Bool). lines ++ ((x.read.text, d) ∷ [])) (sym e)
 
   -- where fewer than endless bytes were read the input is at its end
-  pub last_dry : r.ended ≡ false → length (bytes_of (lines ++ (l ∷ []))) < endless → (r.more ≡ false) × (rest ≡ [])
-  last_dry e h = go r.more refl
+  pub last_dry : has_feed r.end ≡ false → length (bytes_of (lines ++ (l ∷ []))) < endless → (has_more r.end ≡ false) × (rest ≡ [])
+  last_dry e h = go (has_more r.end) refl
     where
-      go : (t : Bool) → r.more ≡ t → (r.more ≡ false) × (rest ≡ [])
+      go : (t : Bool) → has_more r.end ≡ t → (has_more r.end ≡ false) × (rest ≡ [])
       go true m = absurd (omega (arith, x.long e m, more_long))
       go false m = (m, (x.read.dry m).1)
 
@@ -189,37 +179,42 @@ good_ended : (a : List ℕ) (ended : Bool) → is_good (first_of a ended) ≡ tr
 good_ended a true g = refl
 good_ended a false g = apart (sym g ∙ ap is_good (unended a refl) ∙ never_good)
 
--- what is lent is blank at first
-pub blank_lent : {connect targets sent ws : List ℕ} → connect ≡ no_frame → targets ≡ no_aims → sent ≡ no_frame → ws ≡ replicate ledger_words 0
-    → tables_of ws ≡ empty_ledger → (f : Option Settings) → whole (state_of (opened f)) connect targets (tables_of ws) ws sent ≡ opened f
+-- behind a good first line the journal's memory is blank
+pub blank_lent : {m : Memory} → m ≡ blank_memory → tables_of m.ledger ≡ empty_ledger → (f : Option Settings) → whole (state_of (opened f)) m ≡ opened f
 unfolding opened new_journal
-blank_lent {connect} {targets} {sent} {ws} a b c d e f =
-    ap (λ (x : List ℕ). whole (state_of (opened f)) x targets (tables_of ws) ws sent) a
-    ∙ ap (λ (x : List ℕ). whole (state_of (opened f)) no_frame x (tables_of ws) ws sent) b
-    ∙ ap (λ (x : List ℕ). whole (state_of (opened f)) no_frame no_aims (tables_of ws) ws x) c
-    ∙ ap (λ (x : PathLedger). whole (state_of (opened f)) no_frame no_aims x ws no_frame) e
-    ∙ ap (λ (x : List ℕ). whole (state_of (opened f)) no_frame no_aims empty_ledger x no_frame) d
+blank_lent {m} e k f =
+    let l : tables_of blank_memory.ledger ≡ empty_ledger = ap (λ (z : Memory). tables_of z.ledger) (sym e) ∙ k in
+    rw e (rw l refl)
+
+pub opened_state : (f : Option Settings) {s : State} → state_in f ≡ Some s → (s ≡ state_of (opened f)) × (is_good f ≡ true)
+unfolding opened
+opened_state (Some x) {s} e = (let z : s ≡ state_of (new_journal x) = cc in z, refl)
+opened_state None e = absurd (let z : ◌≡◌ {A = ℕ} 0 1 = cc in omega arith)
+
+pub opened_none : (f : Option Settings) → state_in f ≡ None → is_good f ≡ false
+opened_none (Some x) e = absurd (let z : ◌≡◌ {A = ℕ} 0 1 = cc in omega arith)
+opened_none None e = refl
 
 -- the lines behind it
 module _ {line block after : List ℕ} {r : Reading} (x : NextLine line [] block after r) (ls : List Line) where
   pub first_whole : (brought over : List ℕ) → left block r.from r.until ++ brought ≡ bytes_of ls ++ over
-      → x.read.brought ++ brought ≡ bytes_of ((x.read.text, r.ended) ∷ ls) ++ over
+      → x.read.brought ++ brought ≡ bytes_of ((x.read.text, has_feed r.end) ∷ ls) ++ over
   unfolding bytes_of
   first_whole brought over h =
       ap (λ (d : List ℕ). d ++ brought) (more_whole [] x [] [] refl)
-      ∙ append_assoc (bytes_of ((x.read.text, r.ended) ∷ [])) (left block r.from r.until) brought
-      ∙ ap (λ (d : List ℕ). bytes_of ((x.read.text, r.ended) ∷ []) ++ d) h
-      ∙ ap (λ (d : List ℕ). d ++ (bytes_of ls ++ over)) (append-nil (x.read.text ++ feed r.ended))
-      ∙ sym (append_assoc (x.read.text ++ feed r.ended) (bytes_of ls) over)
+      ∙ append_assoc (bytes_of ((x.read.text, has_feed r.end) ∷ [])) (left block r.from r.until) brought
+      ∙ ap (λ (d : List ℕ). bytes_of ((x.read.text, has_feed r.end) ∷ []) ++ d) h
+      ∙ ap (λ (d : List ℕ). d ++ (bytes_of ls ++ over)) (append-nil (x.read.text ++ feed (has_feed r.end)))
+      ∙ sym (append_assoc (x.read.text ++ feed (has_feed r.end)) (bytes_of ls) over)
 
-  pub first_cut : is_good (first_of x.read.text r.ended) ≡ true → lines_of (bytes_of ls) ≡ ls
-      → lines_of (bytes_of ((x.read.text, r.ended) ∷ ls)) ≡ (x.read.text, r.ended) ∷ ls
+  pub first_cut : is_good (first_of x.read.text (has_feed r.end)) ≡ true → lines_of (bytes_of ls) ≡ ls
+      → lines_of (bytes_of ((x.read.text, has_feed r.end) ∷ ls)) ≡ (x.read.text, has_feed r.end) ∷ ls
   unfolding bytes_of
   first_cut g h =
-      ap (λ (d : List ℕ). lines_of (d ++ bytes_of ls)) (sym (append-nil (x.read.text ++ feed r.ended)))
-      ∙ more_ended [] x none_ended (good_ended x.read.text r.ended g) (bytes_of ls)
-      ∙ ap (λ (d : List Line). (x.read.text, r.ended) ∷ d) h
+      ap (λ (d : List ℕ). lines_of (d ++ bytes_of ls)) (sym (append-nil (x.read.text ++ feed (has_feed r.end))))
+      ∙ more_ended [] x none_ended (good_ended x.read.text (has_feed r.end) g) (bytes_of ls)
+      ∙ ap (λ (d : List Line). (x.read.text, has_feed r.end) ∷ d) h
 
-  pub shorter : length (bytes_of ((x.read.text, r.ended) ∷ ls)) < endless → length (bytes_of ls) < endless
+  pub shorter : length (bytes_of ((x.read.text, has_feed r.end) ∷ ls)) < endless → length (bytes_of ls) < endless
   unfolding bytes_of
-  shorter h = omega (arith, length-append (x.read.text ++ feed r.ended) (bytes_of ls))
+  shorter h = omega (arith, length-append (x.read.text ++ feed (has_feed r.end)) (bytes_of ls))

@@ -8,8 +8,9 @@ use Rattle.journal_prints.specs.Outputs.{attributed_text, refused_text}
 use Rattle.journal_effects.specs.Effects.{effects_text}
 use Rattle.journal_effects.specs.declared.Effects.{Effects}
 use Rattle.lines.specs.Lines.{longest}
-use Rattle.journal_calls.specs.Calls.{Journal, Turned, new_journal}
+use Rattle.journal_calls.specs.Calls.{Journal, Turned, state_of, new_journal}
 use Rattle.journal_turns.specs.Turns.{line_turn}
+use Rattle.journal_calls.specs.declared.State.{State}
 use Rattle.journal_calls.specs.declared.Said.{Said}
 use Rattle.journal_calls.specs.declared.Said.TheVariants as said
 
@@ -31,6 +32,11 @@ settings_in None =
 
 unfoldable pub opened : Option Settings → Journal
 opened f = new_journal (settings_in f)
+
+-- the numbers of the journal that a good first line opens
+abbrev pub state_in : Option Settings → Option State
+state_in (Some s) = Some (state_of (new_journal s))
+state_in None = None
 
 -- a good first line prints nothing, any other n=0 and 11
 abbrev pub opening_text : Option Settings → List ℕ

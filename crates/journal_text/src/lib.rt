@@ -1,34 +1,25 @@
-// What a journal prints, line by line: each line in, its output lines behind what a lent buffer holds already. What the buffer has no
+// What a journal prints, line by line: each line in, its output lines behind what a printer's buffer holds already. What the buffer has no
 // room for is left out.
 #![tactic(auto)]
 
 ghost use Rattle.std.specs.Prelude.{◌≡◌, ◌++◌, ◌+◌, ◌*◌, ◌≤◌, length, take};
-ghost use Rattle.text.specs.Printed.{printed, behind};
+ghost use Rattle.text.specs.Printed.{printed, behind, page, with_text};
 ghost use Rattle.journal_prints.specs.Outputs.{attributed_text};
 ghost use Rattle.journal_prints.specs.Room.{room, OwnerFits};
-ghost use Rattle.ledger.specs.Ledger.{tables_of};
-ghost use Rattle.journal_calls.specs.Calls.{whole, state_of};
+ghost use Rattle.journal_calls.specs.Calls.{whole};
 ghost use Rattle.journal_turns.specs.Turns.{line_turn};
-ghost use Rattle.journal_text.specs.Texts.{first_of, is_good, settings_in, opened, opening_text, said_text, line_text};
+ghost use Rattle.journal_text.specs.Texts.{first_of, state_in, opening_text, said_text, line_text};
 
 use frames::FrameBytes;
-use journal_calls::{Said, State};
+use journal_calls::{Memory, Said, State};
 use journal_effects::Effects;
-use ledger::Ledger;
 use lent::TargetBytes;
 use path::{Attribution, Owner};
 use refusal::Refusal;
+use text::Printer;
 use vocabulary::Settings;
 
 // ---- the first line
-
-// The journal that a good first line opens, and the place behind what was printed.
-#[derive(Clone, Copy)]
-pub struct Opening {
-    pub good: bool,
-    pub state: State,
-    pub next: usize,
-}
 
 #[tactic(auto, unfolding(crate::specs::Texts::first_of))]
 fn read_first(line: &[u8], ended: bool) -> Option<Settings>
@@ -40,47 +31,32 @@ fn read_first(line: &[u8], ended: bool) -> Option<Settings>
     None
 }
 
-fn settings_in(first: Option<Settings>) -> Settings
-    ensures { result ≡ settings_in first }
+// The first line of the input, without its line feed; `ended` is whether it had one. An input without a line is one of no bytes and no
+// line feed. The answer is the journal that a good first line opens.
+#[tactic(auto, using(text::proofs::Printing::with_none))]
+pub fn open_journal(line: &[u8], ended: bool, printer: &mut Printer<'_>) -> Option<State>
+    ensures state { result ≡ state_in (first_of line.now ended) }
+    ensures bytes { page printer.new ≡ with_text (page printer.old) (opening_text (first_of line.now ended)) }
 {
-    match first {
-        Some(settings) => settings,
-        None => Settings {
-            handshake: 0,
-            upgrade: 0,
-            exchange: 0,
-            punch: 0,
-            interval: 0,
-            payload: 0,
-            private: false,
-            upgrades: false,
-        },
+    match read_first(line, ended) {
+        Some(settings) => Some(journal_turns::new_journal(settings)),
+        None => {
+            journal_prints::put_refused(0, Refusal::UnknownLine, printer);
+            None
+        }
     }
 }
 
-// The first line of the input, without its line feed; `ended` is whether it had one. An input without a line is one of no bytes and no
-// line feed.
-pub fn open_journal(line: &[u8], ended: bool, out: &mut [u8], at: usize) -> Opening
-    ensures good { result.good ≡ is_good (first_of line.now ended) }
-    ensures state { result.state ≡ state_of (opened (first_of line.now ended)) }
-    ensures bytes { out.new ≡ printed out.old at (opening_text (first_of line.now ended)) }
-    ensures place { result.next ≡ behind out.old at (opening_text (first_of line.now ended)) }
+// The same into a buffer, from its first byte on: what it prints ends at the place.
+#[tactic(auto, unfolding(text::specs::Printed::with_text))]
+pub fn open_into(line: &[u8], ended: bool, out: &mut [u8]) -> (Option<State>, usize)
+    ensures state { result.0 ≡ state_in (first_of line.now ended) }
+    ensures bytes { out.new ≡ printed out.old 0 (opening_text (first_of line.now ended)) }
+    ensures place { result.1 ≡ behind out.old 0 (opening_text (first_of line.now ended)) }
 {
-    let first = read_first(line, ended);
-    let settings = settings_in(first);
-    let state = journal_turns::new_journal(settings);
-    match first {
-        Some(_) => Opening {
-            good: true,
-            state,
-            next: at,
-        },
-        None => Opening {
-            good: false,
-            state,
-            next: journal_prints::put_refused(0, Refusal::UnknownLine, out, at),
-        },
-    }
+    let mut printer = Printer { out, at: 0 };
+    let opening = open_journal(line, ended, &mut printer);
+    (opening, printer.at)
 }
 
 // ---- the lines behind it
@@ -95,17 +71,12 @@ fn owner_in_range(owner: Option<Owner>)
     }
 }
 
-fn put_found(n: u64, found: Option<Attribution>, out: &mut [u8], at: usize) -> usize
-    ensures bytes { out.new ≡ printed out.old at (attributed_text n found) }
-    ensures place { result ≡ behind out.old at (attributed_text n found) }
-    ensures short { length (attributed_text n found) ≤ 4 * room }
+fn found_is_short(n: u64, found: Option<Attribution>)
+    ensures { length (attributed_text n found) ≤ 4 * room }
 {
     match found {
-        Some(attribution) => {
-            owner_in_range(attribution.owner);
-            journal_prints::put_attributed(n, found, out, at)
-        }
-        None => journal_prints::put_attributed(n, found, out, at),
+        Some(attribution) => owner_in_range(attribution.owner),
+        None => {}
     }
 }
 
@@ -115,52 +86,38 @@ fn put_said(
     effects: Effects,
     sent: &FrameBytes,
     aims: &TargetBytes,
-    out: &mut [u8],
-    at: usize,
-) -> usize
-    ensures bytes { out.new ≡ printed out.old at (said_text n effects sent.now aims.now said) }
-    ensures place { result ≡ behind out.old at (said_text n effects sent.now aims.now said) }
+    printer: &mut Printer<'_>,
+)
+    ensures bytes { page printer.new ≡ with_text (page printer.old) (said_text n effects sent.now aims.now said) }
     ensures short { length (said_text n effects sent.now aims.now said) ≤ 4 * room }
 {
     match said {
-        Said::Effects => journal_effects::put_effects(n, effects, sent, aims, out, at),
-        Said::Attributed(found) => put_found(n, found, out, at),
-        Said::Refused(why) => journal_prints::put_refused(n, why, out, at),
+        Said::Effects => journal_effects::put_effects(n, effects, sent, aims, printer),
+        Said::Attributed(found) => {
+            found_is_short(n, found);
+            journal_prints::put_attributed(n, found, printer)
+        }
+        Said::Refused(why) => journal_prints::put_refused(n, why, printer),
     }
-}
-
-// The journal after a line, and the place behind what was printed.
-#[derive(Clone, Copy)]
-pub struct Answered {
-    pub state: State,
-    pub next: usize,
 }
 
 // A line behind the first, without its line feed; `ended` is whether it had one. The reply buffer is the journal's, of 4,098 bytes. Where
 // there is room for four output lines nothing is cut.
+#[tactic(auto, unfolding(crate::specs::Texts::line_text))]
 pub fn answer_line(
     j: State,
-    connect: &mut FrameBytes,
-    targets: &mut TargetBytes,
-    sent: &mut FrameBytes,
-    ledger: &mut Ledger,
+    m: &mut Memory,
     reply: &mut [u8],
     line: &[u8],
     ended: bool,
-    out: &mut [u8],
-    at: usize,
-) -> Answered
-    ensures journal { whole result.state connect.new targets.new (tables_of ledger.new) ledger.new sent.new ≡ (line_turn (whole j connect.old targets.old (tables_of ledger.old) ledger.old sent.old) reply.old line.now ended).turn.journal }
-    ensures reply { reply.new ≡ (line_turn (whole j connect.old targets.old (tables_of ledger.old) ledger.old sent.old) reply.old line.now ended).reply }
-    ensures bytes { out.new ≡ printed out.old at (line_text (whole j connect.old targets.old (tables_of ledger.old) ledger.old sent.old) reply.old line.now ended) }
-    ensures place { result.next ≡ behind out.old at (line_text (whole j connect.old targets.old (tables_of ledger.old) ledger.old sent.old) reply.old line.now ended) }
-    ensures whole { at + 4 * room ≤ length out.old → take result.next out.new ≡ take at out.old ++ line_text (whole j connect.old targets.old (tables_of ledger.old) ledger.old sent.old) reply.old line.now ended }
+    printer: &mut Printer<'_>,
+) -> State
+    ensures journal { whole result m.new ≡ (line_turn (whole j m.old) reply.old line.now ended).turn.journal }
+    ensures reply { reply.new ≡ (line_turn (whole j m.old) reply.old line.now ended).reply }
+    ensures bytes { page printer.new ≡ with_text (page printer.old) (line_text (whole j m.old) reply.old line.now ended) }
+    ensures whole { printer.old.at + 4 * room ≤ length printer.old.out.now → take printer.new.at printer.new.out.now ≡ take printer.old.at printer.old.out.now ++ line_text (whole j m.old) reply.old line.now ended }
 {
-    let t = journal_turns::take_line(j, connect, targets, sent, ledger, reply, line, ended);
-    let next = t.state;
-    let p = put_said(next.n, t.said, t.effects, sent, targets, out, at);
-    Answered {
-        state: next,
-        next: p,
-    }
+    let t = journal_turns::take_line(j, m, reply, line, ended);
+    put_said(t.state.n, t.said, t.effects, &m.sent, &m.targets, printer);
+    t.state
 }

@@ -1,17 +1,17 @@
 -- The bytes of hexadecimal digits at a place of a line, read into a buffer. Assumes nothing.
-use mathlib.Core.Path.{◌≡◌, refl, sym, ap, ◌∙◌}
+use mathlib.Core.Path.{◌≡◌, refl, sym, ◌∙◌}
 use mathlib.Core.List.{List, [], ◌∷◌}
 use mathlib.Core.Bool.{Bool, true, false}
 use Prim.Native.Nat.{ℕ, suc, ◌+◌, ◌*◌, ◌-◌, ◌<◌, ◌≤◌, min}
 use native.Mathlib.Omega.{arith}
 use lib.Dec.{ltb}
-use lib.ListN.{length, take, drop, replicate, length-take, length-drop, length-replicate}
+use lib.ListN.{length, take, drop, length-take, length-drop}
 use lib.Seq.{take_all}
 use borrow.Author.Tests.{ltb-true, ltb-false}
 use Rattle.prelude.specs.Choice.{pick}
 use Rattle.text.specs.Hexadecimal.{digit_value, is_pair, bytes_of}
 use Rattle.text.specs.Printed.{printed, behind}
-use Rattle.text.proofs.Printing.{laid, parts, laid_none, length_kept, fits, fits_place}
+use Rattle.text.proofs.Printing.{parts, laid_none, behind_within, fits}
 use Rattle.forms.specs.Texts.{part}
 
 -- two digits make a byte
@@ -24,10 +24,6 @@ bytes_half (a ∷ b ∷ s) = go (is_pair a b) (bytes_half s)
     go : (t : Bool) → 2 * length (bytes_of s) ≤ length s → 2 * length (pick t ((digit_value a * 16 + digit_value b) ∷ bytes_of s) []) ≤ suc (suc (length s))
     go true h = omega arith
     go false h = omega arith
-
-digits_fit : (line : List ℕ) (start end size : ℕ) → length line < 2 * size → length (bytes_of (part line start end)) ≤ size
-digits_fit line start end size h =
-    omega (arith, bytes_half (part line start end), length-take (end - start) (drop start line), length-drop start line)
 
 -- a place that ends past the line ends with it
 module _ (line : List ℕ) (start end : ℕ) {e : ℕ} (m : e ≡ min end (length line)) where
@@ -56,19 +52,14 @@ module _ (line : List ℕ) (start end : ℕ) {e : ℕ} (m : e ≡ min end (lengt
       → (x ≡ printed o 0 (bytes_of (part line start end))) × (q ≡ behind o 0 (bytes_of (part line start end)))
   read_some o f = rw clipped at f
 
--- the bytes of a line stand whole in half its length
-module _ (line o : List ℕ) (start end : ℕ) (size : ℕ) {x : List ℕ} {n : ℕ} (f : (x ≡ printed o 0 (bytes_of (part line start end))) × (n ≡ behind o 0 (bytes_of (part line start end)))) (z : o ≡ replicate size 0) (h : length line < 2 * size) where
-  room : length o ≡ size
-  room = ap length z ∙ length-replicate {A = ℕ} size 0
+-- they stand whole in a buffer of half the line's length
+module _ (line o : List ℕ) (start end : ℕ) {n : ℕ} (place : n ≡ behind o 0 (bytes_of (part line start end))) where
+  pub within : n ≤ length o
+  within = rw place (behind_within o 0 (bytes_of (part line start end)) (omega arith))
 
-  fitting : length (bytes_of (part line start end)) ≤ length o
-  fitting = omega (arith, digits_fit line start end size h, room)
-
-  pub within : n ≤ size
-  within = omega (arith, f.1, fits_place o (bytes_of (part line start end)) fitting, digits_fit line start end size h)
-
-  pub long : length x ≡ size
-  long = length_kept (laid o 0 (bytes_of (part line start end)) f) ∙ room
-
-  pub whole : take n x ≡ bytes_of (part line start end)
-  whole = rw (f.0, f.1) (fits o (bytes_of (part line start end)) fitting)
+  pub whole : {x : List ℕ} → x ≡ printed o 0 (bytes_of (part line start end)) → length line < 2 * length o → take n x ≡ bytes_of (part line start end)
+  whole bytes h =
+      let fit : length (bytes_of (part line start end)) ≤ length o =
+      omega (arith, bytes_half (part line start end), length-take (end - start) (drop start line), length-drop start line)
+      in
+      rw (bytes, place) (fits o (bytes_of (part line start end)) fit)

@@ -1,5 +1,5 @@
 -- What a journal's lines do (RULES.md, sections 12.1, 12.5 and 12.6): each is counted and read, and its call is made.
-use Rattle.std.specs.Prelude.{ℕ, Bool, true, false, List, ltb, length, None, Option, Some}
+use Rattle.std.specs.Prelude.{ℕ, ◌*◌, ◌<◌, ◌≤◌, Bool, true, false, List, ltb, length, None, Option, Some}
 use Rattle.time.specs.Time.{plus}
 use Rattle.prelude.specs.Choice.{pick, both, no}
 use Rattle.text.specs.Hexadecimal.{bytes_of}
@@ -20,6 +20,10 @@ use Rattle.ids.specs.declared.StreamId.{StreamId}
 -- the bytes that the digits at a place of the line stand for
 abbrev pub digits_bytes : List ℕ → Digits → List ℕ
 digits_bytes line d = bytes_of (part line d.start d.end)
+
+-- whether so many bytes are room for those of any digits of a line
+abbrev pub IsRoom : ℕ → List ℕ → Type 0
+IsRoom n line = (length line < 2 * n) × (2 * n ≤ longest)
 
 -- the host's answers: a reading, the live connection, the offer
 unfoldable pub host_of : ℕ → Option ConnectionId → Option (ConnectionId × StreamId) → Host

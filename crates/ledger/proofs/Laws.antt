@@ -8,14 +8,17 @@ use lib.ListN.{length}
 use Rattle.prelude.specs.Lists.{such}
 use Rattle.kinds.specs.declared.Row.{Row}
 use Rattle.rows.specs.declared.Table.TheVariants.{Dials, Windows, Paths}
-use Rattle.prelude.specs.Choice.{no}
 use Rattle.rows.specs.Rows.{inserted, crowded}
 use Rattle.rows.specs.Words.{rows_of, ledger_words, start_of}
 use Rattle.rows.proofs.Words.{used_is}
 use Rattle.rows.proofs.Lists.{such_≤}
 use Rattle.rows.proofs.Laws.{inserted_fits}
 use Rattle.rows.proofs.Tables.{laid_own, laid_length, laid_rows, laid_before, laid_behind}
-use Rattle.ledger.specs.Ledger.{PathLedger, tables_of, laid, with_dials, with_windows, with_paths}
+use Rattle.prelude.specs.Choice.{pick}
+use Rattle.std.specs.Prelude.{Option, Result}
+use Rattle.path.specs.declared.Attribution.{Attribution}
+use Rattle.refusal.specs.declared.Refusal.{Refusal}
+use Rattle.ledger.specs.Ledger.{Attributed, PathLedger, full_or, full_refused, tables_of, laid, with_dials, with_windows, with_paths}
 use Rattle.rows.specs.Words as words
 
 module _ (ws : List ℕ) (h : length ws ≡ ledger_words) where
@@ -91,48 +94,48 @@ module _ (ws : List ℕ) (h : length ws ≡ ledger_words) (rs : List Row) (k : l
     unfolding laid
     both_words = rw windows_stay refl
 
--- ---- a row that is entered, and one for which there is no room
-pub no_true : (t : Bool) → no t ≡ true → t ≡ false
-no_true true e = sym e
-no_true false e = refl
+-- ---- a row that is entered, or for which there is no room
+-- what a call leaves and answers that records a row, or is refused
+pub record Enters (ws out : List ℕ) (full : Bool) (changed : PathLedger) : Type 0 where
+  pub outcome : full_refused full ≡ (full_or full (tables_of ws) changed).outcome
+  pub tables : tables_of out ≡ (full_or full (tables_of ws) changed).ledger
+  pub words : out ≡ laid (full_or full (tables_of ws) changed).ledger ws
 
-pub no_false : (t : Bool) → no t ≡ false → t ≡ true
-no_false true e = refl
-no_false false e = sym e
+module _ (ws : List ℕ) (h : length ws ≡ ledger_words) {out : List ℕ} where
+  enters : (full : Bool) (changed : PathLedger) → (full ≡ true → out ≡ ws) → (full ≡ false → (tables_of out ≡ changed) × (out ≡ laid changed ws)) → Enters ws out full changed
+  enters true changed f g = let e = f refl in record { outcome = refl; tables = ap tables_of e; words = e ∙ sym (laid_same ws h) }
+  enters false changed f g = let e = g refl in record { outcome = refl; tables = e.0; words = e.1 }
 
-module _ (ws : List ℕ) (h : length ws ≡ ledger_words) (row : Row) {out : List ℕ} where
-  same : out ≡ ws → (tables_of out ≡ tables_of ws) × (out ≡ laid (tables_of ws) ws)
-  same e = (ap tables_of e, e ∙ sym (laid_same ws h))
+  module _ (row : Row) where
+    pub dials_entered : out ≡ words.laid Dials (words.entered row (rows_of Dials ws)) ws → Enters ws out (crowded row.key (rows_of Dials ws)) (with_dials (tables_of ws) (inserted row (rows_of Dials ws)))
+    dials_entered f =
+        let rs = inserted row (rows_of Dials ws) in
+        enters (crowded row.key (rows_of Dials ws)) (with_dials (tables_of ws) rs) (λ e. (rw e at f) ∙ own_dials ws h)
+        (λ e. let g = rw e at f in let k = inserted_fits row (rows_of Dials ws) e in (ap tables_of g ∙ dials_tables ws h rs k, g ∙ dials_words ws h rs k))
 
-  pub dials_entered : crowded row.key (rows_of Dials ws) ≡ false → out ≡ words.laid Dials (words.entered row (rows_of Dials ws)) ws
-      → (tables_of out ≡ with_dials (tables_of ws) (inserted row (rows_of Dials ws))) × (out ≡ laid (with_dials (tables_of ws) (inserted row (rows_of Dials ws))) ws)
-  dials_entered e f =
-      let g = rw e at f in
-      let k = inserted_fits row (rows_of Dials ws) e in
-      (ap tables_of g ∙ dials_tables ws h (inserted row (rows_of Dials ws)) k, g ∙ dials_words ws h (inserted row (rows_of Dials ws)) k)
+    pub windows_entered : out ≡ words.laid Windows (words.entered row (rows_of Windows ws)) ws → Enters ws out (crowded row.key (rows_of Windows ws)) (with_windows (tables_of ws) (inserted row (rows_of Windows ws)))
+    windows_entered f =
+        let rs = inserted row (rows_of Windows ws) in
+        enters (crowded row.key (rows_of Windows ws)) (with_windows (tables_of ws) rs) (λ e. (rw e at f) ∙ own_windows ws h)
+        (λ e. let g = rw e at f in let k = inserted_fits row (rows_of Windows ws) e in (ap tables_of g ∙ windows_tables ws h rs k, g ∙ windows_words ws h rs k))
 
-  pub dials_full : crowded row.key (rows_of Dials ws) ≡ true → out ≡ words.laid Dials (words.entered row (rows_of Dials ws)) ws → (tables_of out ≡ tables_of ws) × (out ≡ laid (tables_of ws) ws)
-  dials_full e f = same ((rw e at f) ∙ own_dials ws h)
+    pub paths_entered : out ≡ words.laid Paths (words.entered row (rows_of Paths ws)) ws → Enters ws out (crowded row.key (rows_of Paths ws)) (with_paths (tables_of ws) (inserted row (rows_of Paths ws)))
+    paths_entered f =
+        let rs = inserted row (rows_of Paths ws) in
+        enters (crowded row.key (rows_of Paths ws)) (with_paths (tables_of ws) rs) (λ e. (rw e at f) ∙ own_paths ws h)
+        (λ e. let g = rw e at f in let k = inserted_fits row (rows_of Paths ws) e in (ap tables_of g ∙ paths_tables ws h rs k, g ∙ paths_words ws h rs k))
 
-  pub windows_entered : crowded row.key (rows_of Windows ws) ≡ false → out ≡ words.laid Windows (words.entered row (rows_of Windows ws)) ws
-      → (tables_of out ≡ with_windows (tables_of ws) (inserted row (rows_of Windows ws))) × (out ≡ laid (with_windows (tables_of ws) (inserted row (rows_of Windows ws))) ws)
-  windows_entered e f =
-      let g = rw e at f in
-      let k = inserted_fits row (rows_of Windows ws) e in
-      (ap tables_of g ∙ windows_tables ws h (inserted row (rows_of Windows ws)) k, g ∙ windows_words ws h (inserted row (rows_of Windows ws)) k)
+-- of a path that is recorded: what an attribution leaves
+pub named_left : (full : Bool) (l changed : PathLedger) (a b : Result (Option Attribution) Refusal)
+    → (full_or full l changed).ledger ≡ (pick {A = Attributed} full (record { ledger = l; answer = a }) (record { ledger = changed; answer = b })).ledger
+named_left true l changed a b = refl
+named_left false l changed a b = refl
 
-  pub windows_full : crowded row.key (rows_of Windows ws) ≡ true → out ≡ words.laid Windows (words.entered row (rows_of Windows ws)) ws → (tables_of out ≡ tables_of ws) × (out ≡ laid (tables_of ws) ws)
-  windows_full e f = same ((rw e at f) ∙ own_windows ws h)
-
-  pub paths_entered : crowded row.key (rows_of Paths ws) ≡ false → out ≡ words.laid Paths (words.entered row (rows_of Paths ws)) ws
-      → (tables_of out ≡ with_paths (tables_of ws) (inserted row (rows_of Paths ws))) × (out ≡ laid (with_paths (tables_of ws) (inserted row (rows_of Paths ws))) ws)
-  paths_entered e f =
-      let g = rw e at f in
-      let k = inserted_fits row (rows_of Paths ws) e in
-      (ap tables_of g ∙ paths_tables ws h (inserted row (rows_of Paths ws)) k, g ∙ paths_words ws h (inserted row (rows_of Paths ws)) k)
-
-  pub paths_full : crowded row.key (rows_of Paths ws) ≡ true → out ≡ words.laid Paths (words.entered row (rows_of Paths ws)) ws → (tables_of out ≡ tables_of ws) × (out ≡ laid (tables_of ws) ws)
-  paths_full e f = same ((rw e at f) ∙ own_paths ws h)
+-- and what it answers
+pub named_answer : (full : Bool) (l changed : PathLedger) (a b : Result (Option Attribution) Refusal)
+    → pick full a b ≡ (pick {A = Attributed} full (record { ledger = l; answer = a }) (record { ledger = changed; answer = b })).answer
+named_answer true l changed a b = refl
+named_answer false l changed a b = refl
 
 -- ---- rows that are dropped
 module _ (ws : List ℕ) (h : length ws ≡ ledger_words) (p : Row → Bool) where
@@ -145,13 +148,3 @@ module _ (ws : List ℕ) (h : length ws ≡ ledger_words) (p : Row → Bool) whe
 
     pub windows_such : out ≡ words.laid Windows (such p (rows_of Windows ws)) ws → (tables_of out ≡ with_windows (tables_of ws) (such p (rows_of Windows ws))) × (out ≡ laid (with_windows (tables_of ws) (such p (rows_of Windows ws))) ws)
     windows_such f = (ap tables_of f ∙ windows_tables ws h (such p (rows_of Windows ws)) (such_64 (start_of Windows)), f ∙ windows_words ws h (such p (rows_of Windows ws)) (such_64 (start_of Windows)))
-
--- ---- the law: tables that are laid are those of the words
-pub tables_laid : (ws : List ℕ) → length ws ≡ ledger_words → (l : PathLedger) → length l.dials ≤ 64 → length l.windows ≤ 64 → length l.paths ≤ 64 → tables_of (laid l ws) ≡ l
-unfolding laid
-tables_laid ws h l d w p =
-    let w1 = words.laid Paths l.paths ws in
-    let n1 : length w1 ≡ ledger_words = laid_length (start_of Paths) ws (omega arith) l.paths p ∙ h in
-    let w2 = words.laid Windows l.windows w1 in
-    let n2 : length w2 ≡ ledger_words = laid_length (start_of Windows) w1 (omega arith) l.windows w ∙ n1 in
-    dials_tables w2 n2 l.dials d ∙ ap (λ (x : PathLedger). with_dials x l.dials) (windows_tables w1 n1 l.windows w ∙ ap (λ (x : PathLedger). with_windows x l.windows) (paths_tables ws h l.paths p))

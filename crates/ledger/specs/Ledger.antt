@@ -93,6 +93,10 @@ pub record Forgotten : Type 0 where
   pub path : Option Attribution
 
 -- ---- dials (sections 10.2 and 10.4)
+-- number 4 where a 65th row would be needed
+abbrev pub full_refused : Bool → Result ⊤ Refusal
+full_refused full = pick full (Err LedgerFull) (Ok tt)
+
 -- the ledger as it was, and number 4, where a 65th row would be needed
 abbrev pub full_or : Bool → PathLedger → PathLedger → Recorded
 full_or full l changed = pick full (record { ledger = l; outcome = Err LedgerFull }) (record { ledger = changed; outcome = Ok tt })

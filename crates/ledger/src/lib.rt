@@ -3,12 +3,13 @@
 #![tactic(auto)]
 
 ghost use Rattle.std.specs.Prelude.{◌≡◌, replicate};
-ghost use Rattle.rows.specs.Words.{ledger_words};
-ghost use Rattle.ledger.specs.Ledger.{empty_ledger, tables_of, laid, dial_started, finish_dial, aborted_with, refuses_punches, expect_punches, end_punches, judged_by, attributed, replaced_by, forgotten, is_punched, ticked, next_deadline, is_quiet};
+ghost use Rattle.rows.specs.Rows.{crowded};
+ghost use Rattle.rows.specs.Words.{ledger_words, rows_of, entered, laid as rows_laid};
+ghost use Rattle.ledger.specs.Ledger.{empty_ledger, tables_of, full_refused, laid, dial_started, finish_dial, aborted_with, refuses_punches, expect_punches, end_punches, judged_by, attributed, replaced_by, forgotten, is_punched, ticked, next_deadline, is_quiet};
 
 use dials::{Dropped, Firsts};
 use ids::{ConnectId, ConnectionId, NatToken, PeerId};
-use kinds::Entry;
+use kinds::{Entry, Row};
 use path::{Attribution, Claim, Dial, DialPurpose, Replaced};
 use refusal::Refusal;
 use rows::{Keep, Table};
@@ -21,6 +22,17 @@ pub fn empty() -> Ledger
     ensures words { result ≡ replicate ledger_words 0 }
 {
     rows::empty()
+}
+
+// The row in its place; refused, and no change, where it would be the 65th.
+fn insert(l: &mut Ledger, table: Table, row: Row) -> Result<(), Refusal>
+    ensures answer { result ≡ full_refused (crowded row.key (rows_of table l.old)) }
+    ensures words { l.new ≡ rows_laid table (entered row (rows_of table l.old)) l.old }
+{
+    if rows::insert(l, table, row) {
+        return Ok(());
+    }
+    Err(Refusal::LedgerFull)
 }
 
 // Records why a connection is dialed.
@@ -36,10 +48,7 @@ pub fn dial_started(
 {
     rows::known(l);
     let dial = Dial { token, purpose };
-    if rows::insert(l, Table::Dials, kinds::row_of(conn.0, Entry::Dialed(dial))) {
-        return Ok(());
-    }
-    Err(Refusal::LedgerFull)
+    insert(l, Table::Dials, kinds::row_of(conn.0, Entry::Dialed(dial)))
 }
 
 // Ends the dial of a connection (it was established or failed) and hands out its token and purpose.
@@ -80,10 +89,7 @@ pub fn expect_punches(l: &mut Ledger, peer: PeerId, until: u64) -> Result<(), Re
 {
     rows::known(l);
     let end = entries::punch_end(l, peer, until);
-    if rows::insert(l, Table::Windows, kinds::row_of(peer.0, Entry::Window(end))) {
-        return Ok(());
-    }
-    Err(Refusal::LedgerFull)
+    insert(l, Table::Windows, kinds::row_of(peer.0, Entry::Window(end)))
 }
 
 // Closes the peer's window before its end.
@@ -129,14 +135,8 @@ pub fn attribute(
     let Some(attribution) = judgement else {
         return Ok(None);
     };
-    if rows::insert(
-        l,
-        Table::Paths,
-        kinds::row_of(conn.0, Entry::Path(attribution)),
-    ) {
-        return Ok(Some(attribution));
-    }
-    Err(Refusal::LedgerFull)
+    let row = kinds::row_of(conn.0, Entry::Path(attribution));
+    insert(l, Table::Paths, row).map(|()| Some(attribution))
 }
 
 // The upgrade, if any, that a connection is which takes the place of one that came as `old`.

@@ -1,23 +1,24 @@
 -- Records read and numbers written, one at a time. Assumes nothing.
-use mathlib.Core.Path.{◌≡◌, sym, ap, ◌∙◌}
-use mathlib.Core.List.{List, [], ◌∷◌, ◌++◌, append-nil}
-use Prim.Native.Nat.{ℕ, ◌+◌, ◌*◌, ◌<◌, ◌≤◌, min}
+use mathlib.Core.Path.{◌≡◌, refl, sym, ap, ◌∙◌}
+use mathlib.Core.List.{List, [], ◌∷◌, ◌++◌}
+use Prim.Native.Nat.{ℕ, ◌+◌, ◌*◌, ◌/◌, ◌%◌, ◌^◌, ◌<◌, ◌≤◌, min}
 use native.Mathlib.Numerals.{add-one}
 use native.Mathlib.Omega.{arith}
-use lib.ListN.{length, take, set, get_or, length-append, length-replicate, length-take}
-use lib.Seq.{take-suc, take-suc-set}
-use Rattle.text.specs.Printed.{printed}
-use Rattle.text.proofs.Printing.{Laid, then, fits_place}
-use Rattle.line_program.proofs.Answers.{renamed}
-use Rattle.call_table.specs.Tables.{shows, no_bytes_lem}
+use lib.ListN.{length, take, drop, set, get_or, drop_of_length-le, length-append, length-replicate, length-take, take-append-drop}
+use lib.Seq.{take-suc-set, drop-drop}
+use Rattle.std.proofs.lemmas.List.{drop-set-lt}
+use Rattle.text.specs.Printed.{printed, Page, with_text}
+use Rattle.std.specs.Int.{to_be_bytes, w64}
+use Rattle.text.proofs.Reading.{at}
+use Rattle.text.proofs.Printing.{Laid, then, fits_place, printed_on}
+use Rattle.call_table.specs.Tables.{shows, no_bytes}
 use Rattle.rows.specs.Rows.{capacity}
 use Rattle.ids.specs.declared.NatToken.{NatToken}
 use Rattle.ids.specs.declared.ConnectionId.{ConnectionId}
 use Rattle.dials.specs.declared.Column.{Column}
 use Rattle.dials.specs.Dials.{each}
-use Rattle.dials.proofs.Each.{each_append}
 use Rattle.live_dials.specs.declared.Live.{Live}
-use Rattle.ledger_calls.specs.Records.{up_to, live_at, records, lives_in, octets, numbers_bytes, tokens_bytes, connections_bytes}
+use Rattle.ledger_calls.specs.Records.{up_to, live_at, records, lives_in, lives_over, octets, numbers_bytes, tokens_bytes, connections_bytes}
 use Rattle.ledger_calls.specs.Calls.{dropped_said}
 
 -- ---- records
@@ -25,25 +26,41 @@ use Rattle.ledger_calls.specs.Calls.{dropped_said}
 abbrev pub lives : List ℕ → ℕ → List Live
 lives s k = live_at s (16 * k) ∷ []
 
-module _ (s : List ℕ) (rows : List Live) (k : ℕ) (inv : take k rows ≡ up_to (lives s) k) where
+module _ (s : List ℕ) (room rows : List Live) (k : ℕ) (inv : take k rows ≡ up_to (lives s) k) (rest : drop k rows ≡ drop k room) where
   pub live_next : {x : Live} → k < length rows → x ≡ live_at s (16 * k) → take (k + 1) (set rows k x) ≡ up_to (lives s) (k + 1)
   unfolding up_to
   live_next {x} h e = rw (add-one k, take-suc-set rows k x h, inv, e)
 
-  pub lives_all : {n : ℕ} → n ≡ records s → k ≡ n → take n rows ≡ lives_in s
-  unfolding lives_in
-  lives_all e f = ap (λ (m : ℕ). take m rows) (sym f) ∙ inv ∙ ap (up_to (lives s)) (f ∙ e)
+  pub rest_next : (x : Live) → drop (k + 1) (set rows k x) ≡ drop (k + 1) room
+  rest_next x =
+      let h : k < k + 1 = omega arith in
+      drop-set-lt (k + 1) rows k x h ∙ sym (drop-drop 1 k rows) ∙ ap (drop 1) rest ∙ drop-drop 1 k room
+
+  module _ {n : ℕ} (e : n ≡ records s) (f : k ≡ n) where
+    pub lives_all : take n rows ≡ lives_in s
+    unfolding lives_in
+    lives_all = ap (λ (m : ℕ). take m rows) (sym f) ∙ inv ∙ ap (up_to (lives s)) (f ∙ e)
+
+    pub lives_laid : rows ≡ lives_over room s
+    unfolding lives_over
+    lives_laid = sym (take-append-drop n rows) ∙ rw (lives_all, ← e, ← f) (ap (λ (xs : List Live). lives_in s ++ xs) rest)
 
 -- ---- numbers
 
+-- a number's bytes as the library gives them
+pub octets_are : (v : ℕ) → v < 2 ^ 64 → to_be_bytes w64 v ≡ octets v
+unfolding octets
+octets_are v h = let z : v / 2 ^ 56 % 256 ≡ v / 2 ^ 56 = omega arith in rw z
+
 -- one more of the numbers
-pub number_next : {o : List ℕ} {p : ℕ} {x : List ℕ} {q : ℕ} {y : List ℕ} {r : ℕ} (ns : List ℕ) (i : ℕ) → i < length ns
-    → Laid o p (numbers_bytes (take i ns)) x q → Laid x q (octets (get_or ns i 0)) y r → Laid o p (numbers_bytes (take (i + 1) ns)) y r
+pub numbers_more : (p q whole : Page) (ns : List ℕ) (i : ℕ) → i < length ns → q ≡ with_text p (octets (get_or ns i 0))
+    → with_text p (numbers_bytes (drop i ns)) ≡ whole → with_text q (numbers_bytes (drop (i + 1) ns)) ≡ whole
 unfolding each
-number_next ns i h a b =
-    let e : numbers_bytes (take (i + 1) ns) ≡ numbers_bytes (take i ns) ++ octets (get_or ns i 0)
-    = ap numbers_bytes (rw (add-one i) (take-suc ns i 0 h)) ∙ each_append octets (take i ns) (get_or ns i 0 ∷ []) ∙ simp append-nil in
-    renamed (sym e) (then a b)
+numbers_more p q whole ns i h = printed_on p q whole (octets (get_or ns i 0)) (numbers_bytes (drop (i + 1) ns)) (rw (at ns i h) refl)
+
+pub numbers_none : (ns : List ℕ) (i : ℕ) → length ns ≤ i → numbers_bytes (drop i ns) ≡ []
+unfolding each
+numbers_none ns i h = rw (drop_of_length-le ns h)
 
 -- ---- what an abort answers
 
@@ -63,11 +80,16 @@ connections_few : (c : Column ConnectionId) → length (connections_bytes c) ≤
 unfolding connections_bytes
 connections_few c = used_few _ c.count
 
-room : length no_bytes_lem ≡ 8192
-unfolding no_bytes_lem
+room : length no_bytes ≡ 8192
+unfolding no_bytes
 room = length-replicate {A = ℕ} 8192 0
 
-module _ (t : Column NatToken) (c : Column ConnectionId) {o x y : List ℕ} {m e : ℕ} (n : o ≡ no_bytes_lem) (f : Laid o 0 (tokens_bytes t) x m) (g : Laid x m (connections_bytes c) y e) where
+-- the buffer and the place of a page with a text more
+pub laid_by : {o x : List ℕ} (r : ℕ) {p q : ℕ} {t : List ℕ} {s : ℕ} → record { reference = s; bytes = x; at = q } ≡ with_text (record { reference = r; bytes = o; at = p }) t → Laid o p t x q
+unfolding with_text
+laid_by r e = record { bytes = ap (λ (p : Page). p.bytes) e; place = ap (λ (p : Page). p.at) e }
+
+module _ (t : Column NatToken) (c : Column ConnectionId) {o x y : List ℕ} {m e : ℕ} (n : o ≡ no_bytes) (f : Laid o 0 (tokens_bytes t) x m) (g : Laid x m (connections_bytes c) y e) where
   size : length o ≡ 8192
   size = ap length n ∙ room
 
@@ -79,7 +101,7 @@ module _ (t : Column NatToken) (c : Column ConnectionId) {o x y : List ℕ} {m e
       let l = length-append (tokens_bytes t) (connections_bytes c) in
       (then f g).place ∙ fits_place o (tokens_bytes t ++ connections_bytes c) (omega (arith, tokens_few t, connections_few c, size)) ∙ l
 
-  shown : y ≡ printed no_bytes_lem 0 (tokens_bytes t ++ connections_bytes c)
+  shown : y ≡ printed no_bytes 0 (tokens_bytes t ++ connections_bytes c)
   shown = (then f g).bytes ∙ ap (λ (b : List ℕ). printed b 0 (tokens_bytes t ++ connections_bytes c)) n
 
   pub dropped_shown : shows 1 (0 ∷ m ∷ m ∷ e ∷ 0 ∷ 0 ∷ []) y ≡ dropped_said t c

@@ -1,5 +1,5 @@
 -- Calls of `ledger` (RULES.md, section 10): what each row's call makes of the ledger's words, and what is said of it.
-use Rattle.std.specs.Prelude.{ℕ, ◌+◌, List, [], ◌∷◌, ◌++◌, Bool, length, get_or, replicate, eqb, ltb, leb, Err, None, Ok, Option, Result, Some, ⊤}
+use Rattle.std.specs.Prelude.{ℕ, ◌+◌, List, [], ◌∷◌, ◌++◌, length, get_or, replicate, eqb, ltb, leb, Err, None, Ok, Option, Result, Some, ⊤}
 use Rattle.prelude.specs.Choice.{pick}
 use Rattle.text.specs.Words.{ascii}
 use Rattle.text.specs.Printed.{printed}
@@ -17,7 +17,7 @@ use Rattle.ids.specs.declared.NatToken.{NatToken}
 use Rattle.dials.specs.declared.Column.{Column}
 use Rattle.live_dials.specs.First.{first_live}
 use Rattle.ledger.specs.Ledger.{PathLedger, Recorded, Finished, Aborted, Attributed, Forgotten, tables_of, laid, empty_ledger, dial_started, finish_dial, aborted_dials, expect_punches, end_punches, attributed, replaced_by, forgotten, is_punched, ticked, next_deadline, is_quiet}
-use Rattle.call_table.specs.Tables.{call_of, bytes_in, none, says, shows, no_bytes_lem, answer_text}
+use Rattle.call_table.specs.Tables.{bytes_in, none, says, shows, yes_said, no_bytes, turn_by, text_by}
 use Rattle.call_table.specs.declared.Said.{Said}
 use Rattle.call_table.specs.declared.Call.{Call}
 use Rattle.ledger_calls.specs.Values.{purpose_of, purpose_words, path_of, path_words, owner_of, owner_words, claim_of, table_of}
@@ -63,23 +63,19 @@ name_said name =
     says 2
     ((path_words name.path).word ∷ (path_words name.path).relay ∷ (owner_words name.owner).word ∷ (owner_words name.owner).id ∷ 0 ∷ 0 ∷ [])
 
-abbrev pub answer_said : Result (Option Attribution) Refusal → Said
-answer_said (Ok None) = says 1 none
-answer_said (Ok (Some name)) = name_said name
-answer_said (Err why) = says 3 (number_of why ∷ 0 ∷ 0 ∷ 0 ∷ 0 ∷ 0 ∷ [])
-
 abbrev pub path_said : Option Attribution → Said
 path_said None = says 1 none
 path_said (Some name) = name_said name
+
+abbrev pub answer_said : Result (Option Attribution) Refusal → Said
+answer_said (Ok found) = path_said found
+answer_said (Err why) = says 3 (number_of why ∷ 0 ∷ 0 ∷ 0 ∷ 0 ∷ 0 ∷ [])
 
 abbrev pub upgrade_said : Option Replaced → Said
 upgrade_said None = says 1 none
 upgrade_said (Some u) =
     says 2
     ((owner_words u.owner).word ∷ (owner_words u.owner).id ∷ (path_words u.from).word ∷ (path_words u.from).relay ∷ (path_words u.to).word ∷ (path_words u.to).relay ∷ [])
-
-abbrev pub yes_said : Bool → Said
-yes_said holds = pick holds (says 1 none) (says 2 none)
 
 abbrev pub deadline_said : Option ℕ → Said
 deadline_said None = says 1 none
@@ -104,7 +100,7 @@ unfoldable pub dropped_said : Column NatToken → Column ConnectionId → Said
 dropped_said retired close =
     shows 1
     (0 ∷ length (tokens_bytes retired) ∷ length (tokens_bytes retired) ∷ (length (tokens_bytes retired) + length (connections_bytes close)) ∷ 0 ∷ 0 ∷ [])
-    (printed no_bytes_lem 0 (tokens_bytes retired ++ connections_bytes close))
+    (printed no_bytes 0 (tokens_bytes retired ++ connections_bytes close))
 
 -- ---- the ledger after a call, its tables and every word, and what is said of it
 
@@ -180,18 +176,12 @@ turn_of ws row w bytes =
     pick (ltb row 8) (change_turn ws row w)
     (pick (eqb row 8) (abort_turn ws (record { 0 = at w 2 }) (peer (at w 3)) bytes) (unchanged ws (look_said ws row w)))
 
--- a line that is none of these calls leaves the ledger, and nothing is printed of it
 abbrev pub call_turn : List ℕ → List ℕ → Call → Turn
-call_turn ws line c = pick c.found (turn_of ws c.row c.words (bytes_in line (at c.words 0) (at c.words 1))) (unchanged ws (says 0 none))
+call_turn ws line call = turn_of ws call.row call.words (bytes_in line (at call.words 0) (at call.words 1))
 
-unfoldable pub turn_by : List ℕ → List ℕ → List ℕ → Turn
-turn_by table ws line = call_turn ws line (call_of table line)
-
-unfoldable pub text_by : List ℕ → List ℕ → List ℕ → List ℕ
-text_by table ws line = answer_text table (call_of table line).found (call_of table line).row (turn_by table ws line).said
-
+-- a line that is none of these calls leaves the ledger, and nothing is printed of it
 abbrev pub ledger_turn : List ℕ → List ℕ → Turn
-ledger_turn ws line = turn_by ledger_table ws line
+ledger_turn ws line = turn_by ledger_table (unchanged ws (says 0 none)) (call_turn ws line) line
 
 abbrev pub ledger_text : List ℕ → List ℕ → List ℕ
-ledger_text ws line = text_by ledger_table ws line
+ledger_text ws line = text_by ledger_table (λ call. (call_turn ws line call).said) line

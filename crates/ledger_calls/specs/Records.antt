@@ -1,5 +1,5 @@
 -- Numbers as eight bytes, the first byte first: the live connections of an abort, and the lists that it answers (RULES.md, section 10.4).
-use Rattle.std.specs.Prelude.{ℕ, zero, suc, ◌+◌, ◌*◌, ◌/◌, ◌%◌, ◌^◌, min, List, [], ◌∷◌, ◌++◌, map, length, take, get_or}
+use Rattle.std.specs.Prelude.{ℕ, zero, suc, ◌+◌, ◌*◌, ◌/◌, ◌%◌, ◌^◌, min, List, [], ◌∷◌, ◌++◌, map, length, take, drop, get_or}
 use Rattle.rows.specs.Rows.{capacity}
 use Rattle.ids.specs.declared.NatToken.{NatToken}
 use Rattle.ids.specs.declared.ConnectionId.{ConnectionId}
@@ -31,6 +31,10 @@ records s = min (length s / 16) 1024
 
 unfoldable pub lives_in : List ℕ → List Live
 lives_in s = up_to (λ k. live_at s (16 * k) ∷ []) (records s)
+
+-- room for as many once they stand over its start
+unfoldable pub lives_over : List Live → List ℕ → List Live
+lives_over room s = lives_in s ++ drop (records s) room
 
 -- ---- written
 

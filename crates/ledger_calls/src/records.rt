@@ -1,14 +1,15 @@
 // Numbers as eight bytes, the first byte first: the live connections of an abort, and the lists that it answers.
 ghost use Rattle.std.specs.Prelude.{◌≡◌, ◌+◌, ◌*◌, ◌<◌, ◌≤◌, ◌^◌, length, take};
-ghost use Rattle.text.specs.Printed.{printed, behind};
-ghost use Rattle.ledger_calls.specs.Records.{half, number, octets, live_at, lives_in, numbers_bytes};
+ghost use Rattle.text.specs.Printed.{page, with_text};
+ghost use Rattle.ledger_calls.specs.Records.{half, number, live_at, records, lives_in, lives_over, numbers_bytes};
 
 use ids::{ConnectionId, PeerId};
 use live_dials::Live;
+use text::Printer;
 
 // ---- read
 
-// A number with a byte more.
+// A number with a byte more. By bytes: `first_chunk::<8>` would answer an `Option` that is never none here.
 fn more(v: u64, b: u8) -> u64
     requires { v < 2 ^ 56 }
     ensures { (result ≡ v * 256 + b) × (result ≤ v * 256 + 255) }
@@ -52,66 +53,33 @@ fn live_at(s: &[u8], at: usize) -> Live
 // As many records as a line has room for: each takes 32 of its bytes.
 pub const RECORDS: usize = 1024;
 
-// The first `n`.
-#[derive(Clone, Copy)]
-pub struct Lives {
-    pub rows: [Live; RECORDS],
-    pub n: usize,
-}
+// What stands in room for them before they are read.
+pub const NONE: Live = Live {
+    peer: PeerId(0),
+    connection: ConnectionId(0),
+};
 
-pub fn read_lives(s: &[u8]) -> Lives
-    ensures few { result.n ≤ 1024 }
-    ensures rows { take result.n result.rows ≡ lives_in s.now }
+// The whole records of a text, over the start of lent room, and how many they are.
+pub fn read_lives(s: &[u8], room: &mut [Live; RECORDS]) -> usize
+    ensures lives { room.new ≡ lives_over room.old s.now }
+    ensures count { result ≡ records s.now }
+    ensures read { take result room.new ≡ lives_in s.now }
 {
-    let none = Live {
-        peer: PeerId(0),
-        connection: ConnectionId(0),
-    };
-    let mut rows = [none; RECORDS];
     let n = (s.len() / 16).min(RECORDS);
     for k in 0..n {
-        rows[k] = live_at(s, 16 * k);
+        room[k] = live_at(s, 16 * k);
     }
-    Lives { rows, n }
+    n
 }
 
 // ---- written
 
-type Eight = [u8; 8];
-
-#[tactic(auto, unfolding(crate::specs::Records::octets))]
-fn octets(v: u64) -> Eight
-    ensures { result ≡ octets v }
-{
-    [
-        (v / 0x100000000000000) as u8,
-        (v / 0x1000000000000 % 256) as u8,
-        (v / 0x10000000000 % 256) as u8,
-        (v / 0x100000000 % 256) as u8,
-        (v / 0x1000000 % 256) as u8,
-        (v / 0x10000 % 256) as u8,
-        (v / 256 % 256) as u8,
-        (v % 256) as u8,
-    ]
-}
-
-#[tactic(auto, unfolding(text::specs::Printed::printed, crate::specs::Records::octets, text::specs::Printed::behind))]
-fn put_number(v: u64, out: &mut [u8], at: usize) -> usize
-    ensures bytes { out.new ≡ printed out.old at (octets v) }
-    ensures place { result ≡ behind out.old at (octets v) }
-{
-    let bytes = octets(v);
-    text::put_text(&bytes, out, at)
-}
-
 // One behind the other.
-pub fn put_numbers(numbers: &[u64], out: &mut [u8], at: usize) -> usize
-    ensures bytes { out.new ≡ printed out.old at (numbers_bytes numbers.now) }
-    ensures place { result ≡ behind out.old at (numbers_bytes numbers.now) }
+#[tactic(auto, using(text::proofs::Printing::with_texts))]
+pub fn put_numbers(numbers: &[u64], printer: &mut Printer<'_>)
+    ensures { page printer.new ≡ with_text (page printer.old) (numbers_bytes numbers.now) }
 {
-    let mut p = at;
     for v in numbers {
-        p = put_number(*v, out, p);
+        printer.put_text(&v.to_be_bytes());
     }
-    p
 }

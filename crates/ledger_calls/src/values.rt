@@ -1,4 +1,5 @@
-// What the words of the ledger's lines stand for, and the words of its values. A word of a choice is its place there.
+// What the words of the ledger's lines stand for, and the words of its values. A word of a choice is its place there, in the form's order and
+// not in the enum's, so numbers are read and made by `match`.
 ghost use Rattle.std.specs.Prelude.{◌≡◌};
 ghost use Rattle.ledger_calls.specs.Values.{purpose_of, purpose_words, path_of, path_words, owner_of, owner_words, claim_of, table_of};
 
@@ -12,16 +13,12 @@ use rows::Table;
 pub fn purpose_of(word: u64, of: u64, relay: u64) -> DialPurpose
     ensures { result ≡ purpose_of word of relay }
 {
-    if word == 0 {
-        return DialPurpose::Relay(ConnectId(of), PeerId(relay));
+    match word {
+        0 => DialPurpose::Relay(ConnectId(of), PeerId(relay)),
+        1 => DialPurpose::Punch(ConnectId(of)),
+        2 => DialPurpose::Probe(PeerId(of)),
+        _ => DialPurpose::Reserve(PeerId(of)),
     }
-    if word == 1 {
-        return DialPurpose::Punch(ConnectId(of));
-    }
-    if word == 2 {
-        return DialPurpose::Probe(PeerId(of));
-    }
-    DialPurpose::Reserve(PeerId(of))
 }
 
 #[derive(Clone, Copy)]
@@ -65,15 +62,13 @@ pub fn purpose_words(purpose: DialPurpose) -> PurposeWords
 pub fn path_of(word: u64, relay: u64) -> Path
     ensures { result ≡ path_of word relay }
 {
-    if word == 0 {
-        return Path::Relayed {
+    match word {
+        0 => Path::Relayed {
             relay: PeerId(relay),
-        };
+        },
+        1 => Path::Punched,
+        _ => Path::Direct,
     }
-    if word == 1 {
-        return Path::Punched;
-    }
-    Path::Direct
 }
 
 #[derive(Clone, Copy)]
@@ -102,13 +97,11 @@ pub fn path_words(path: Path) -> PathWords
 pub fn owner_of(word: u64, id: u64) -> Option<Owner>
     ensures { result ≡ owner_of word id }
 {
-    if word == 0 {
-        return None;
+    match word {
+        0 => None,
+        1 => Some(Owner::Inbound),
+        _ => Some(Owner::Attempt(ConnectId(id))),
     }
-    if word == 1 {
-        return Some(Owner::Inbound);
-    }
-    Some(Owner::Attempt(ConnectId(id)))
 }
 
 #[derive(Clone, Copy)]
@@ -134,22 +127,18 @@ pub fn owner_words(owner: Option<Owner>) -> OwnerWords
 pub fn claim_of(word: u64, relay: u64, id: u64) -> Option<Claim>
     ensures { result ≡ claim_of word relay id }
 {
-    if word == 0 {
-        return None;
-    }
-    if word == 1 {
-        return Some(Claim::Direct(ConnectId(id)));
-    }
-    if word == 2 {
-        return Some(Claim::Circuit {
+    match word {
+        0 => None,
+        1 => Some(Claim::Direct(ConnectId(id))),
+        2 => Some(Claim::Circuit {
             relay: PeerId(relay),
             owner: Some(Owner::Inbound),
-        });
+        }),
+        _ => Some(Claim::Circuit {
+            relay: PeerId(relay),
+            owner: Some(Owner::Attempt(ConnectId(id))),
+        }),
     }
-    Some(Claim::Circuit {
-        relay: PeerId(relay),
-        owner: Some(Owner::Attempt(ConnectId(id))),
-    })
 }
 
 // ---- tables
@@ -158,11 +147,9 @@ pub fn claim_of(word: u64, relay: u64, id: u64) -> Option<Claim>
 pub fn table_of(word: u64) -> Table
     ensures { result ≡ table_of word }
 {
-    if word == 0 {
-        return Table::Dials;
+    match word {
+        0 => Table::Dials,
+        1 => Table::Windows,
+        _ => Table::Paths,
     }
-    if word == 1 {
-        return Table::Windows;
-    }
-    Table::Paths
 }

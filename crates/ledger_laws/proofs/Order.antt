@@ -14,7 +14,7 @@ use Rattle.rows.specs.Ascending.{Ascending}
 use Rattle.rows.specs.Ascending.Ascending.{none}
 use Rattle.rows.proofs.Laws.{ascending_such, ascending_inserted}
 use Rattle.dials.specs.declared.Fate.{Fate}
-use Rattle.dials.specs.declared.Fate.TheVariants.{Other as FateOther, Stays, Goes, Closes}
+use Rattle.dials.specs.declared.Fate.TheVariants.{Stays, Goes, Closes}
 use Rattle.dials.specs.Dials.{each, stays, fate_at, left_by, left_of, first_for}
 use Rattle.ledger.specs.Ledger.{PathLedger, Attributed, empty_ledger, dials_of, paths_of, judged_by, recorded, full_or, refuses_punches, dial_started, finish_dial, aborted_dials, expect_punches, end_punches, ticked, attributed, forgotten}
 use Rattle.refusal.specs.declared.Refusal.TheVariants.{LedgerFull}
@@ -32,12 +32,12 @@ left_such id g (r ∷ rs) = go (fate_at id r (g r)) (left_such id g rs)
     rest : List Row
     rest = each (left_of id) (map (λ (x : Row). (x, g x)) rs)
 
-    go : (f : Fate) → rest ≡ such (λ (x : Row). stays (fate_at id x (g x))) rs
+    go : (f : Option Fate) → rest ≡ such (λ (x : Row). stays (fate_at id x (g x))) rs
         → left_by r f ++ rest ≡ pick (stays f) (r ∷ such (λ (x : Row). stays (fate_at id x (g x))) rs) (such (λ (x : Row). stays (fate_at id x (g x))) rs)
-    go FateOther h = ap (λ (l : List Row). r ∷ l) h
-    go (Stays token) h = ap (λ (l : List Row). r ∷ l) h
-    go (Goes token) h = h
-    go (Closes token) h = h
+    go None h = ap (λ (l : List Row). r ∷ l) h
+    go (Some (Stays token)) h = ap (λ (l : List Row). r ∷ l) h
+    go (Some (Goes token)) h = h
+    go (Some (Closes token)) h = h
 
 module _ {l : PathLedger} (o : InOrder l) where
   full_or_lem : {changed : PathLedger} (full : Bool) → InOrder changed → InOrder (full_or full l changed).ledger

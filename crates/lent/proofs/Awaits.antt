@@ -15,7 +15,7 @@ use Rattle.budget.specs.declared.UpgradeBudget.{UpgradeBudget}
 use Rattle.budget.specs.declared.UpgradeStop.{UpgradeStop}
 use Rattle.budget.specs.declared.UpgradeStop.TheVariants.{ExchangeTimeout, UpgradeTimeout}
 use Rattle.budget.specs.Budget.{ended, may_begin, upgrade_due, due_in, due_at, next_in, next_deadline}
-use Rattle.candidates.specs.declared.Chosen.{Chosen}
+use Rattle.candidates.specs.Selection.{Chosen}
 use Rattle.vocabulary.specs.declared.Host.{Host}
 use Rattle.vocabulary.specs.declared.StreamInput.{StreamInput}
 use Rattle.vocabulary.specs.declared.StreamInput.TheVariants as i
@@ -29,7 +29,6 @@ use Rattle.circuit.specs.declared.decision.Said.{Said}
 use Rattle.circuit.specs.declared.decision.Decision.{Decision}
 use Rattle.inputs.specs.declared.Running.{Running}
 use Rattle.inputs.specs.declared.Heard.{Heard}
-use Rattle.inputs.specs.declared.Heard.TheVariants as heard
 use Rattle.circuit.specs.Decisions.{silence, reset_of, sending_of, decided_of, quiet_of}
 use Rattle.rounds.specs.Rounds.{is_live, no_round, open_stream, open_round, fail_round}
 use Rattle.upgrade.specs.Ticks.{reset_at_end, stopped, tick_exchange}
@@ -116,25 +115,25 @@ first_unopened c h x false pending = λ t q. refl
 
 -- ---- an input that brings no byte of the reply
 
-module _ (c : Core) (h : Host) (stream : StreamId) (kind : StreamInput) (pending : Bool) (y : Heard) (n : ℕ) (f : Bool) where
+module _ (c : Core) (h : Host) (stream : StreamId) (kind : StreamInput) (pending : Bool) (y : Option Heard) (f : Bool) where
   abbrev Apart : Decision → Decision → Type 0
   Apart d e = (d ≡ e) × Unopened e
 
   module _ (x : Running) where
-    later : (k : StreamInput) → is_data k ≡ false → Apart (later_input c h x y n f k) (later_input c h x heard.Nothing 0 false k)
+    later : (k : StreamInput) → is_data k ≡ false → Apart (later_input c h x y f k) (later_input c h x None false k)
     later i.Ready e = (refl, quiet_unopened c)
     later i.Data e = absurd (let z : ◌≡◌ {A = ℕ} 0 1 = cc in omega arith)
     later i.RemoteWriteClosed e = (refl, fail_unopened c h (reset_of x.conn x.stream))
     later i.Closed e = (refl, fail_unopened c h (reset_of x.conn x.stream))
 
     timely : (w : ConnectWrite) → both (went_out w) (is_data kind) ≡ false
-        → Apart (timely_input c h x kind pending y n f w) (timely_input c h x kind pending heard.Nothing 0 false w)
+        → Apart (timely_input c h x kind pending y f w) (timely_input c h x kind pending None false w)
     timely Unsent e = (refl, first_unopened c h x (closing kind) pending)
     timely Held e = later kind e
     timely (Sent at) e = later kind e
 
     in_time_lem : both (ltb h.at (next_deadline c.budget)) (both (went_out x.connect) (is_data kind)) ≡ false
-        → Apart (exchange_input c h x kind pending y n f) (exchange_input c h x kind pending heard.Nothing 0 false)
+        → Apart (exchange_input c h x kind pending y f) (exchange_input c h x kind pending None false)
     unfolding exchange_input
     in_time_lem e = go (due_at c.budget h.at) refl
       where
@@ -144,13 +143,13 @@ module _ (c : Core) (h : Host) (stream : StreamId) (kind : StreamInput) (pending
         sooner false p q e = absurd (due_then c.budget h.at (ltb-false h.at (next_deadline c.budget) p) q)
 
         go : (s : Option UpgradeStop) → due_at c.budget h.at ≡ s
-            → Apart (in_time c h x kind pending y n f s) (in_time c h x kind pending heard.Nothing 0 false s)
+            → Apart (in_time c h x kind pending y f s) (in_time c h x kind pending None false s)
         go None q = timely x.connect (sooner (ltb h.at (next_deadline c.budget)) refl q e)
         go (Some (ExchangeTimeout round ms)) q = (refl, tick_unopened c h x.conn x.stream)
         go (Some (UpgradeTimeout ms)) q = (refl, tick_unopened c h x.conn x.stream)
 
   pub unheard : (p : Phase) → awaits c h.at stream kind p ≡ false
-      → Apart (input_at c h stream kind pending y n f p) (input_at c h stream kind pending heard.Nothing 0 false p)
+      → Apart (input_at c h stream kind pending y f p) (input_at c h stream kind pending None false p)
   unfolding awaits_in
   unheard (Handshaking deadline) e = (refl, quiet_unopened c)
   unheard (Exchange conn on count write) e = go (eqb on.0 stream.0) e
@@ -159,7 +158,7 @@ module _ (c : Core) (h : Host) (stream : StreamId) (kind : StreamInput) (pending
       x = record { conn = conn; stream = on; count = count; connect = write }
 
       go : (v : Bool) → both v (both (ltb h.at (next_deadline c.budget)) (both (went_out write) (is_data kind))) ≡ false
-          → Apart (pick v (exchange_input c h x kind pending y n f) (quiet_of c)) (pick v (exchange_input c h x kind pending heard.Nothing 0 false) (quiet_of c))
+          → Apart (pick v (exchange_input c h x kind pending y f) (quiet_of c)) (pick v (exchange_input c h x kind pending None false) (quiet_of c))
       go true e = in_time_lem x e
       go false e = (refl, quiet_unopened c)
   unheard (Punching until q) e = (refl, quiet_unopened c)

@@ -5,14 +5,14 @@ use mathlib.Core.List.{List}
 use Prim.Native.Nat.{ℕ, ◌<◌, ◌≤◌}
 use borrow.Author.Tests.{lt-ltb, le-ltb}
 use lib.ListN.{length}
-use Rattle.std.specs.Prelude.{Err, Ok, Result, ⊤}
+use Rattle.std.specs.Prelude.{Err, None, Ok, Result, Some, ⊤, is_ok}
 use Rattle.prelude.specs.Choice.{pick, both}
 use Rattle.ids.specs.declared.PeerId.{PeerId}
 use Rattle.ids.specs.declared.StreamId.{StreamId}
 use Rattle.refusal.specs.declared.Refusal.{Refusal}
 use Rattle.refusal.specs.declared.Refusal.TheVariants.{ReplyBufferTooShort}
 use Rattle.wire.specs.Frame.{max_frame_size}
-use Rattle.candidates.specs.declared.Chosen.{Chosen}
+use Rattle.candidates.specs.Selection.{Chosen}
 use Rattle.candidates.specs.declared.Terms.{Terms}
 use Rattle.frames.specs.Gathering.{gathered_into}
 use Rattle.ledger.specs.Ledger.{tables_of, laid}
@@ -20,7 +20,6 @@ use Rattle.vocabulary.specs.declared.Host.{Host}
 use Rattle.vocabulary.specs.declared.StreamInput.{StreamInput}
 use Rattle.circuit.specs.declared.decision.Decision.{Decision}
 use Rattle.circuit.specs.declared.state.Core.{Core}
-use Rattle.inputs.specs.declared.Heard.TheVariants as heard
 use Rattle.lent.specs.declared.reply.Peeked.{Peeked}
 use Rattle.circuit.specs.State.{terms_of}
 use Rattle.circuit.specs.Decisions.{refused_of}
@@ -29,7 +28,7 @@ use Rattle.inputs.specs.Inputs.{input_at, awaits, frame_bytes}
 use Rattle.lent.specs.Brought.{brought_by}
 use Rattle.lent.specs.Replies.{peeked_of}
 use Rattle.carried.specs.Carried.{sent_after, ledger_after, connect_after, framed_by, targets_after}
-use Rattle.lent.specs.Calls.{peeked, hearing, input_in, is_accepted, buffer_after}
+use Rattle.lent.specs.Calls.{peeked, hearing, input_in, buffer_after}
 use Rattle.lent.proofs.Awaits.{unheard}
 use Rattle.carried.proofs.Carries.{framed_window, framed_outcome, done}
 
@@ -75,23 +74,23 @@ module _ (c : Core) (full : Bool) (h : Host) (targets buffer : List ℕ) (stream
   -- what was peeked at decides
   pub heard_then : {n : ℕ} {v : Terms} {p : Peeked} {f a : Bool} {d : Decision} {t b : List ℕ} → n ≡ frame_bytes c.phase
       → v ≡ terms_of c.settings → p ≡ peeked_of v (brought_by bytes buffer n) → f ≡ full
-      → d ≡ input_at c h stream kind pending p.heard p.targets.len f c.phase → a ≡ is_accepted d.outcome
+      → d ≡ input_at c h stream kind pending (Some p.heard) f c.phase → a ≡ is_ok d.outcome
       → b ≡ pick a (gathered_into bytes buffer n) buffer → t ≡ targets_after targets p.targets d.window
       → Heard·by d t b (hearing c full h buffer stream kind bytes pending)
-      (pick (is_accepted (hearing c full h buffer stream kind bytes pending).outcome) (gathered_into bytes buffer (frame_bytes c.phase)) buffer)
+      (pick (is_ok (hearing c full h buffer stream kind bytes pending).outcome) (gathered_into bytes buffer (frame_bytes c.phase)) buffer)
   unfolding hearing
   heard_then {n} {v} {p} {f} {a} {d} {t} {b} i by j k l m o q =
       let u : p ≡ peeked c buffer bytes =
       j ∙ ap (λ (z : Terms). peeked_of z (brought_by bytes buffer n)) by ∙ ap (λ (z : ℕ). peeked_of (terms_of c.settings) (brought_by bytes buffer z)) i in
       let w : d ≡ hearing c full h buffer stream kind bytes pending =
-      l ∙ ap (λ (z : Peeked). input_at c h stream kind pending z.heard z.targets.len f c.phase) u
-      ∙ ap (λ (z : Bool). input_at c h stream kind pending (peeked c buffer bytes).heard (peeked c buffer bytes).targets.len z c.phase) k in (
+      l ∙ ap (λ (z : Peeked). input_at c h stream kind pending (Some z.heard) f c.phase) u
+      ∙ ap (λ (z : Bool). input_at c h stream kind pending (Some (peeked c buffer bytes).heard) z c.phase) k in (
         w,
         (
           q ∙ ap (λ (z : Peeked). targets_after targets z.targets d.window) u
               ∙ ap (λ (z : Decision). targets_after targets (peeked c buffer bytes).targets z.window) w,
-          o ∙ ap (λ (z : Bool). pick z (gathered_into bytes buffer n) buffer) (m ∙ ap (λ (z : Decision). is_accepted z.outcome) w)
-              ∙ ap (λ (z : ℕ). pick (is_accepted (hearing c full h buffer stream kind bytes pending).outcome) (gathered_into bytes buffer z) buffer) i,
+          o ∙ ap (λ (z : Bool). pick z (gathered_into bytes buffer n) buffer) (m ∙ ap (λ (z : Decision). is_ok z.outcome) w)
+              ∙ ap (λ (z : ℕ). pick (is_ok (hearing c full h buffer stream kind bytes pending).outcome) (gathered_into bytes buffer z) buffer) i,
         ),
       )
 
@@ -121,26 +120,26 @@ module _ (c : Core) (full : Bool) (h : Host) (targets buffer : List ℕ) (stream
 
       pub heard_left : {a : Bool} {d : Decision} {t b : List ℕ} → o ≡ Ok tt → a ≡ awaits c h.at stream kind c.phase → a ≡ true
           → Heard·by d t b (hearing c full h buffer stream kind bytes pending)
-          (pick (is_accepted (hearing c full h buffer stream kind bytes pending).outcome) (gathered_into bytes buffer (frame_bytes c.phase)) buffer)
+          (pick (is_ok (hearing c full h buffer stream kind bytes pending).outcome) (gathered_into bytes buffer (frame_bytes c.phase)) buffer)
           → Left d t b
       unfolding buffer_after
       heard_left {a} {d} {t} {b} e i j p =
-          rw (passed e, ← i, j) (p.0, (p.1.0, p.1.1 ∙ ap (λ (z : Bool). pick z (gathered_into bytes buffer (frame_bytes c.phase)) buffer) (with_true (is_accepted (hearing c full h buffer stream kind bytes pending).outcome))))
+          rw (passed e, ← i, j) (p.0, (p.1.0, p.1.1 ∙ ap (λ (z : Bool). pick z (gathered_into bytes buffer (frame_bytes c.phase)) buffer) (with_true (is_ok (hearing c full h buffer stream kind bytes pending).outcome))))
         where
           with_true : (v : Bool) → v ≡ both v true
           with_true true = refl
           with_true false = refl
 
       pub unheard_left : {a : Bool} {d : Decision} → o ≡ Ok tt → a ≡ awaits c h.at stream kind c.phase → a ≡ false
-          → d ≡ input_at c h stream kind pending heard.Nothing 0 false c.phase → Left d targets buffer
+          → d ≡ input_at c h stream kind pending None false c.phase → Left d targets buffer
       unfolding buffer_after hearing
       unheard_left {a} {d} e i j g =
-          let u = unheard c h stream kind pending (peeked c buffer bytes).heard (peeked c buffer bytes).targets.len full c.phase (sym i ∙ j) in
-          let v : D ≡ input_at c h stream kind pending heard.Nothing 0 false c.phase = passed e ∙ u.0 in (
+          let u = unheard c h stream kind pending (Some (peeked c buffer bytes).heard) full c.phase (sym i ∙ j) in
+          let v : D ≡ input_at c h stream kind pending None false c.phase = passed e ∙ u.0 in (
             g ∙ sym v,
             (
               sym (u.1 targets (peeked c buffer bytes).targets) ∙ ap (λ (z : Decision). targets_after targets (peeked c buffer bytes).targets z.window) (sym v),
-              rw (← i, j) (with_false (is_accepted D.outcome)),
+              rw (← i, j) (with_false (is_ok D.outcome)),
             ),
           )
         where

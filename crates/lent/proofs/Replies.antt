@@ -9,7 +9,7 @@ use borrow.Author.Tests.{le-ltb, ltb-false}
 use lib.Dec.{ltb, eqb}
 use lib.ListN.{length, take, drop, length-take, length-replicate, length-append, length-drop}
 use lib.Seq.{take-append_seam}
-use Rattle.std.specs.Prelude.{Ok}
+use Rattle.std.specs.Prelude.{None, Ok, Option, Some}
 use Rattle.prelude.specs.Choice.{pick}
 use Rattle.wire.specs.Lists.{entries, listed}
 use Rattle.wire.specs.Frame.{max_message_size}
@@ -26,8 +26,7 @@ use Rattle.initiator.specs.Replies.{replied, message_at, reply_from, list_from, 
 use Rattle.initiator.specs.declared.Reply.{Reply}
 use Rattle.initiator.specs.declared.Reply.TheVariants as r
 use Rattle.frames.proofs.Gathers.{gathers_front}
-use Rattle.candidates.specs.declared.Chosen.{Chosen}
-use Rattle.refusal.specs.declared.Refusal.{Refusal}
+use Rattle.candidates.specs.Selection.{Chosen}
 use Rattle.candidates.proofs.Answers.{answer_kept}
 use Rattle.candidates.specs.Selection.{held_terms, selected, packed}
 use Rattle.candidates.specs.declared.Terms.{Terms}
@@ -37,10 +36,10 @@ use Rattle.inputs.specs.declared.Heard.TheVariants as heard
 
 -- ---- the reply
 
-abbrev reply_for : Brought → Reply
-reply_for (unfinished n) = r.More n
-reply_for failed = r.Failed
-reply_for (connect xs) = r.Connect (length (listed xs))
+abbrev reply_for : Brought → Option Reply
+reply_for (unfinished n) = Some (r.More n)
+reply_for failed = None
+reply_for (connect xs) = Some (r.Connect (length (listed xs)))
 
 by_content : (x : Content) → replied (with_room x) ≡ reply_for (from_content x)
 by_content (refused w) = refl
@@ -71,30 +70,30 @@ unfolding no_list
 no_room = length-replicate {A = ℕ} 4096 0
 
 -- of the reply that a room of a whole message gives
-module _ (xs b : List ℕ) (n : ℕ) {a : Reply} (e : a ≡ reply_of xs b n (length no_list)) where
+module _ (xs b : List ℕ) (n : ℕ) {a : Option Reply} (e : a ≡ reply_of xs b n (length no_list)) where
   at_room : a ≡ reply_for (brought_by xs b n)
   at_room = e ∙ ap (reply_of xs b n) no_room ∙ peeked xs b n
 
-  pub brings_more : {k : ℕ} → a ≡ r.More k → brought_by xs b n ≡ unfinished k
+  pub brings_more : {k : ℕ} → a ≡ Some (r.More k) → brought_by xs b n ≡ unfinished k
   brings_more {k} g = go (brought_by xs b n) (sym at_room ∙ g)
     where
-      go : (x : Brought) → reply_for x ≡ r.More k → x ≡ unfinished k
+      go : (x : Brought) → reply_for x ≡ Some (r.More k) → x ≡ unfinished k
       go (unfinished m) h = cc
       go failed h = absurd (let z : ◌≡◌ {A = ℕ} 0 1 = cc in omega arith)
       go (connect those) h = absurd (let z : ◌≡◌ {A = ℕ} 0 1 = cc in omega arith)
 
-  pub brings_nothing : a ≡ r.Failed → brought_by xs b n ≡ failed
+  pub brings_nothing : a ≡ None → brought_by xs b n ≡ failed
   brings_nothing g = go (brought_by xs b n) (sym at_room ∙ g)
     where
-      go : (x : Brought) → reply_for x ≡ r.Failed → x ≡ failed
+      go : (x : Brought) → reply_for x ≡ None → x ≡ failed
       go (unfinished m) h = absurd (let z : ◌≡◌ {A = ℕ} 0 1 = cc in omega arith)
       go failed h = refl
       go (connect those) h = absurd (let z : ◌≡◌ {A = ℕ} 0 1 = cc in omega arith)
 
-  pub brings_connect : {k : ℕ} → a ≡ r.Connect k → (those : List (List ℕ)) × ((brought_by xs b n ≡ connect those) × (k ≡ length (listed those)))
+  pub brings_connect : {k : ℕ} → a ≡ Some (r.Connect k) → (those : List (List ℕ)) × ((brought_by xs b n ≡ connect those) × (k ≡ length (listed those)))
   brings_connect {k} g = go (brought_by xs b n) (sym at_room ∙ g)
     where
-      go : (x : Brought) → reply_for x ≡ r.Connect k → (those : List (List ℕ)) × ((x ≡ connect those) × (k ≡ length (listed those)))
+      go : (x : Brought) → reply_for x ≡ Some (r.Connect k) → (those : List (List ℕ)) × ((x ≡ connect those) × (k ≡ length (listed those)))
       go (unfinished m) h = absurd (let z : ◌≡◌ {A = ℕ} 0 1 = cc in omega arith)
       go failed h = absurd (let z : ◌≡◌ {A = ℕ} 0 1 = cc in omega arith)
       go (connect those) h = (those, (refl, (cc)))
@@ -186,20 +185,20 @@ long_into xs b n o = go (gathered xs b n).frame
     go Broken = refl
     go (Whole start len) = decoded (message_at start len (gathered_into xs b n))
 
-module _ (xs b : List ℕ) (n : ℕ) (terms : Terms) {a : Reply} {z o : List ℕ} (blank : z ≡ no_list) (e : a ≡ reply_of xs b n (length z))
+module _ (xs b : List ℕ) (n : ℕ) (terms : Terms) {a : Option Reply} {z o : List ℕ} (blank : z ≡ no_list) (e : a ≡ reply_of xs b n (length z))
     (f : o ≡ reply_into xs b n z) where
   at_blank : a ≡ reply_of xs b n (length no_list)
   at_blank = e ∙ ap (λ (l : List ℕ). reply_of xs b n (length l)) blank
 
-  pub peek_more : {k : ℕ} {t : Chosen} → a ≡ r.More k → t ≡ packed [] → record { heard = heard.More k; targets = t } ≡ peeked_of terms (brought_by xs b n)
+  pub peek_more : {k : ℕ} {t : Chosen} → a ≡ Some (r.More k) → t ≡ packed [] → record { heard = heard.More k; targets = t } ≡ peeked_of terms (brought_by xs b n)
   unfolding peeked_of
   peek_more g h = rw (brings_more xs b n at_blank g, h)
 
-  pub peek_failed : {t : Chosen} → a ≡ r.Failed → t ≡ packed [] → record { heard = heard.Failed; targets = t } ≡ peeked_of terms (brought_by xs b n)
+  pub peek_failed : {t : Chosen} → a ≡ None → t ≡ packed [] → record { heard = heard.Failed; targets = t } ≡ peeked_of terms (brought_by xs b n)
   unfolding peeked_of
   peek_failed g h = rw (brings_nothing xs b n at_blank g, h)
 
-  pub peek_within : {k : ℕ} → a ≡ r.Connect k → k ≤ 4096
+  pub peek_within : {k : ℕ} → a ≡ Some (r.Connect k) → k ≤ 4096
   peek_within g = let w = brings_connect xs b n at_blank g in omega (arith, w.1.1, list_within xs b n w.0 w.1.0)
 
   -- what was read into has not become longer or shorter
@@ -209,8 +208,8 @@ module _ (xs b : List ℕ) (n : ℕ) (terms : Terms) {a : Reply} {z o : List ℕ
       into_long : length (reply_into xs b n z) ≡ length z
       into_long = long_into xs b n z
 
-  pub peek_connect : {k : ℕ} {t : Chosen} → a ≡ r.Connect k → t ≡ chosen_from terms (take k o)
-      → record { heard = heard.Connect; targets = t } ≡ peeked_of terms (brought_by xs b n)
+  pub peek_connect : {k : ℕ} {t : Chosen} → a ≡ Some (r.Connect k) → t ≡ chosen_from terms (take k o)
+      → record { heard = heard.Connect t.len; targets = t } ≡ peeked_of terms (brought_by xs b n)
   unfolding peeked_of
   peek_connect {k} {t} g h =
       let w = brings_connect xs b n at_blank g in

@@ -214,46 +214,46 @@ unfolding first_input decided_of
 first_accepts c h x true pending = fail_accepts c h (sending_of silence x.conn x.stream (Some (Connect c.connect)) true)
 first_accepts c h x false pending = refl
 
-module _ (c : Core) (h : Host) (n : ℕ) (full : Bool) where
-  replied_whole : (x : Running) (y : Heard) → Whole c (replied c h x n full y)
-  replied_whole x heard.Nothing = accepted_whole c (quiet_of c) (quiet_accepts c)
-  replied_whole x (heard.More k) = accepted_whole c (quiet_of (in_exchange c x k x.connect)) (quiet_accepts (in_exchange c x k x.connect))
-  replied_whole x heard.Failed = accepted_whole c (fail_round c h (reset_of x.conn x.stream)) (fail_accepts c h (reset_of x.conn x.stream))
-  replied_whole x heard.Connect = go full
+module _ (c : Core) (h : Host) (full : Bool) where
+  replied_whole : (x : Running) (y : Option Heard) → Whole c (replied c h x full y)
+  replied_whole x None = accepted_whole c (quiet_of c) (quiet_accepts c)
+  replied_whole x (Some (heard.More k)) = accepted_whole c (quiet_of (in_exchange c x k x.connect)) (quiet_accepts (in_exchange c x k x.connect))
+  replied_whole x (Some heard.Failed) = accepted_whole c (fail_round c h (reset_of x.conn x.stream)) (fail_accepts c h (reset_of x.conn x.stream))
+  replied_whole x (Some (heard.Connect n)) = go full
     where
       go : (v : Bool) → Whole c (pick v (refused_of c LedgerFull) (open_window c h.at x n))
       go true = refused_whole c LedgerFull
       go false = accepted_whole c (open_window c h.at x n) (window_accepts c h.at x n)
 
-  module _ (y : Heard) (pending : Bool) where
-    later_whole : (x : Running) (k : StreamInput) → Whole c (later_input c h x y n full k)
+  module _ (y : Option Heard) (pending : Bool) where
+    later_whole : (x : Running) (k : StreamInput) → Whole c (later_input c h x y full k)
     later_whole x i.Ready = accepted_whole c (quiet_of c) (quiet_accepts c)
     later_whole x i.Data = replied_whole x y
     later_whole x i.RemoteWriteClosed = accepted_whole c (fail_round c h (reset_of x.conn x.stream)) (fail_accepts c h (reset_of x.conn x.stream))
     later_whole x i.Closed = accepted_whole c (fail_round c h (reset_of x.conn x.stream)) (fail_accepts c h (reset_of x.conn x.stream))
 
-    timely_whole : (x : Running) (k : StreamInput) (w : ConnectWrite) → Whole c (timely_input c h x k pending y n full w)
+    timely_whole : (x : Running) (k : StreamInput) (w : ConnectWrite) → Whole c (timely_input c h x k pending y full w)
     timely_whole x k Unsent = accepted_whole c (first_input c h x (closing k) pending) (first_accepts c h x (closing k) pending)
     timely_whole x k Held = later_whole x k
     timely_whole x k (Sent at) = later_whole x k
 
-    exchange_whole : (x : Running) (k : StreamInput) → Whole c (exchange_input c h x k pending y n full)
+    exchange_whole : (x : Running) (k : StreamInput) → Whole c (exchange_input c h x k pending y full)
     unfolding exchange_input
     exchange_whole x k = go (due_at c.budget h.at)
       where
-        go : (s : Option UpgradeStop) → Whole c (in_time c h x k pending y n full s)
+        go : (s : Option UpgradeStop) → Whole c (in_time c h x k pending y full s)
         go None = timely_whole x k x.connect
         go (Some (ExchangeTimeout round ms)) = accepted_whole c (tick_exchange c h x.conn x.stream) (exchange_accepts c h x.conn x.stream)
         go (Some (UpgradeTimeout ms)) = accepted_whole c (tick_exchange c h x.conn x.stream) (exchange_accepts c h x.conn x.stream)
 
-    at_whole : (stream : StreamId) (k : StreamInput) (p : Phase) → Whole c (input_at c h stream k pending y n full p)
+    at_whole : (stream : StreamId) (k : StreamInput) (p : Phase) → Whole c (input_at c h stream k pending y full p)
     at_whole stream k (Handshaking deadline) = accepted_whole c (quiet_of c) (quiet_accepts c)
     at_whole stream k (Exchange conn on count write) = go (eqb on.0 stream.0)
       where
         x : Running
         x = record { conn = conn; stream = on; count = count; connect = write }
 
-        go : (v : Bool) → Whole c (pick v (exchange_input c h x k pending y n full) (quiet_of c))
+        go : (v : Bool) → Whole c (pick v (exchange_input c h x k pending y full) (quiet_of c))
         go true = exchange_whole x k
         go false = accepted_whole c (quiet_of c) (quiet_accepts c)
     at_whole stream k (Punching until q) = accepted_whole c (quiet_of c) (quiet_accepts c)
@@ -266,10 +266,10 @@ input_whole c full h own buffer stream k bytes pending = framed_whole c (terms_o
     (go (ltb (length buffer) max_frame_size))
   where
     d : Decision
-    d = input_at c h stream k pending (peeked c buffer bytes).heard (peeked c buffer bytes).targets.len full c.phase
+    d = input_at c h stream k pending (Some (peeked c buffer bytes).heard) full c.phase
 
     go : (v : Bool) → Whole c (pick v (refused_of c ReplyBufferTooShort) (unless c d (check_of c.phase h.offer own)))
     go true = refused_whole c ReplyBufferTooShort
     go false =
         unless_whole c d (check_of c.phase h.offer own)
-        (at_whole c h (peeked c buffer bytes).targets.len full (peeked c buffer bytes).heard pending stream k c.phase)
+        (at_whole c h full (Some (peeked c buffer bytes).heard) pending stream k c.phase)

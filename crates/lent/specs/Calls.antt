@@ -1,5 +1,5 @@
 -- The calls over lent bytes (RULES.md, sections 11.3 to 11.7): what each decides.
-use Rattle.std.specs.Prelude.{ℕ, Bool, true, false, List, ltb, length, Err, Ok, Result, ⊤, is_ok}
+use Rattle.std.specs.Prelude.{ℕ, Bool, List, ltb, length, Result, ⊤, Some, is_ok}
 use Rattle.prelude.specs.Choice.{pick, both}
 use Rattle.ids.specs.declared.ConnectionId.{ConnectionId}
 use Rattle.ids.specs.declared.StreamId.{StreamId}
@@ -46,7 +46,7 @@ peeked c buffer bytes = peeked_of (terms_of c.settings) (brought_by bytes buffer
 -- the ledger may have no room for the source's window
 unfoldable pub hearing : Core → (full : Bool) → Host → (buffer : List ℕ) → StreamId → StreamInput → (bytes : List ℕ) → (pending : Bool) → Decision
 hearing c full h buffer stream kind bytes pending =
-    input_at c h stream kind pending (peeked c buffer bytes).heard (peeked c buffer bytes).targets.len full c.phase
+    input_at c h stream kind pending (Some (peeked c buffer bytes).heard) full c.phase
 
 -- a reply buffer without room for the longest frame is refused before all else
 unfoldable pub input_in : Core → (full : Bool) → Host → (own buffer : List ℕ) → StreamId → StreamInput → (bytes : List ℕ) → (pending : Bool) → Decision
@@ -57,10 +57,7 @@ input_in c full h own buffer stream kind bytes pending =
 unfoldable pub input_of : Core → (full : Bool) → Host → (own buffer : List ℕ) → StreamId → StreamInput → (bytes : List ℕ) → (pending : Bool) → Decision
 input_of c full h own buffer stream kind bytes pending = framed_by (terms_of c.settings) own (input_in c full h own buffer stream kind bytes pending)
 
-abbrev pub is_accepted : Result ⊤ Refusal → Bool
-is_accepted o = is_ok o
-
 -- bytes of the reply are gathered in its buffer, but not by a refused call
 unfoldable pub buffer_after : Core → ℕ → List ℕ → StreamId → StreamInput → List ℕ → Result ⊤ Refusal → List ℕ
 buffer_after c at buffer stream kind bytes o =
-    pick (both (is_accepted o) (awaits c at stream kind c.phase)) (gathered_into bytes buffer (frame_bytes c.phase)) buffer
+    pick (both (is_ok o) (awaits c at stream kind c.phase)) (gathered_into bytes buffer (frame_bytes c.phase)) buffer

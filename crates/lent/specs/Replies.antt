@@ -3,7 +3,7 @@ use Rattle.std.specs.Prelude.{ℕ, List, [], replicate, Result, Ok, Err}
 use Rattle.refusal.specs.declared.Refusal.{Refusal}
 use Rattle.wire.specs.Frame.{max_message_size}
 use Rattle.wire.specs.Lists.{listed, entries}
-use Rattle.candidates.specs.declared.Chosen.{Chosen}
+use Rattle.candidates.specs.Selection.{Chosen}
 use Rattle.candidates.specs.declared.Terms.{Terms}
 use Rattle.candidates.specs.Selection.{held_terms, selected, packed, answered}
 use Rattle.inputs.specs.declared.Heard.TheVariants as heard
@@ -29,4 +29,4 @@ targets_from t addresses = packed (listed (selected (held_terms t) addresses))
 unfoldable pub peeked_of : Terms → Brought → Peeked
 peeked_of t (unfinished n) = record { heard = heard.More n; targets = packed [] }
 peeked_of t failed = record { heard = heard.Failed; targets = packed [] }
-peeked_of t (connect addresses) = record { heard = heard.Connect; targets = targets_from t addresses }
+peeked_of t (connect addresses) = record { heard = heard.Connect (targets_from t addresses).len; targets = targets_from t addresses }

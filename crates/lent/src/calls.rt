@@ -1,13 +1,13 @@
 // The calls of a circuit whose bytes are lent: `connect`, the round's CONNECT; `targets`, those of the punch window; `sent`, where the message
 // that goes out is put; and the path ledger. Each answers the core that it leaves.
-ghost use Rattle.std.specs.Prelude.{◌≡◌};
+ghost use Rattle.std.specs.Prelude.{◌≡◌, is_ok};
 ghost use Rattle.prelude.specs.Choice.{pick};
 ghost use Rattle.frames.specs.Gathering.{gathered_into};
 ghost use Rattle.ledger.specs.Ledger.{tables_of, laid, refuses_punches};
 ghost use Rattle.circuit.specs.State.{terms_of};
 ghost use Rattle.inputs.specs.Inputs.{frame_bytes};
 ghost use Rattle.carried.specs.Carried.{sent_after, ledger_after, connect_after, targets_after, no_frame, no_aims};
-ghost use Rattle.lent.specs.Calls.{up_in, up_of, tick_in, tick_of, peeked, hearing, input_in, input_of, is_accepted, buffer_after};
+ghost use Rattle.lent.specs.Calls.{up_in, up_of, tick_in, tick_of, peeked, hearing, input_in, input_of, buffer_after};
 
 use crate::{TargetBytes, reply};
 use candidates::Chosen;
@@ -16,7 +16,6 @@ use circuit::state;
 use circuit::state::Core;
 use frames::FrameBytes;
 use ids::{ConnectionId, PeerId, StreamId};
-use inputs::Heard;
 use ledger::Ledger;
 use refusal::Refusal;
 use upgrade::{tick, up};
@@ -47,22 +46,13 @@ fn hear(
 ) -> Decision
     ensures answer { result ≡ hearing c (refuses_punches (tables_of ledger.now) c.source) host buffer.old stream input bytes.now pending }
     ensures targets { targets.new ≡ targets_after targets.old (peeked c buffer.old bytes.now).targets (hearing c (refuses_punches (tables_of ledger.now) c.source) host buffer.old stream input bytes.now pending).window }
-    ensures buffer { buffer.new ≡ pick (is_accepted (hearing c (refuses_punches (tables_of ledger.now) c.source) host buffer.old stream input bytes.now pending).outcome) (gathered_into bytes.now buffer.old (frame_bytes c.phase)) buffer.old }
+    ensures buffer { buffer.new ≡ pick (is_ok (hearing c (refuses_punches (tables_of ledger.now) c.source) host buffer.old stream input bytes.now pending).outcome) (gathered_into bytes.now buffer.old (frame_bytes c.phase)) buffer.old }
 {
     let count = inputs::frame_bytes(c.phase);
     let peeked = reply::peek_data(bytes, buffer, count, state::terms(c.settings));
     let chosen = peeked.targets;
     let full = ledger::refuses_punches(ledger, c.source);
-    let d = inputs::input(
-        c,
-        host,
-        stream,
-        input,
-        pending,
-        peeked.heard,
-        chosen.len,
-        full,
-    );
+    let d = inputs::input(c, host, stream, input, pending, Some(peeked.heard), full);
     store(d.outcome.is_ok(), bytes, buffer, count);
     carried::take_targets(d.window, chosen, targets);
     d
@@ -94,7 +84,7 @@ fn input_in(
                 c, targets, ledger, buffer, host, stream, input, bytes, pending,
             )
         }
-        Ok(()) => inputs::input(c, host, stream, input, pending, Heard::Nothing, 0, false),
+        Ok(()) => inputs::input(c, host, stream, input, pending, None, false),
     }
 }
 

@@ -41,17 +41,22 @@ pub fn peek_data(bytes: &[u8], buffer: &[u8], count: usize, terms: Terms) -> Pee
 {
     let mut list = no_list();
     match initiator::peek_reply(bytes, buffer, count, &mut list) {
-        Reply::More { count: n } => Peeked {
-            heard: Heard::More(n),
-            targets: Chosen::empty(),
-        },
-        Reply::Failed => Peeked {
+        None => Peeked {
             heard: Heard::Failed,
             targets: Chosen::empty(),
         },
-        Reply::Connect { size } => Peeked {
-            heard: Heard::Connect,
-            targets: targets_from(&list[..size], terms),
+        Some(Reply::More { count: n }) => Peeked {
+            heard: Heard::More(n),
+            targets: Chosen::empty(),
         },
+        Some(Reply::Connect { size }) => {
+            let chosen = targets_from(&list[..size], terms);
+            Peeked {
+                heard: Heard::Connect {
+                    targets: chosen.len,
+                },
+                targets: chosen,
+            }
+        }
     }
 }

@@ -3,25 +3,21 @@ use mathlib.Core.Path.{◌≡◌, refl, ap, ◌∙◌}
 use mathlib.Core.List.{List, [], ◌∷◌, ◌++◌}
 use Prim.Native.Nat.{ℕ, ◌+◌, ◌<◌, ◌≤◌}
 use native.Mathlib.Omega.{arith}
-use lib.ListN.{length, take, drop, length-replicate, length-take, get_or}
+use lib.ListN.{length, take, drop, length-replicate, length-take}
 use lib.Seq.{sets, sets-eq}
 use borrow.Author.Tests.{lt-ltb, le-ltb}
 use Rattle.std.specs.Prelude.{Result, ℕ}
 use Rattle.text.specs.Printed.{printed}
-use Rattle.line_program.proofs.Answers.{take_replicate}
+use Rattle.std.proofs.lemmas.List.{take-replicate}
 use Rattle.wire.specs.Varint.{encoded}
 use Rattle.message.specs.Message.{decode_of, decode_into}
 use Rattle.message.specs.Encoding.{encode_of, encode_into}
 use Rattle.message.specs.declared.Kind.{Kind}
-use Rattle.call_table.specs.Tables.{call_of, decoded, none, says, shows, no_bytes_lem, answer_text}
-use Rattle.call_table.specs.declared.Call.{Call}
-use Rattle.call_table.specs.declared.Bytes.{Bytes}
-use Rattle.call_table.specs.declared.Said.{Said}
-use Rattle.call_table.proofs.Calling.{whole}
-use Rattle.library_calls.specs.Messages.{encode_said, filler, after, decoded_said, read_said, encoded_said, write_said, message_said, text_by}
+use Rattle.call_table.specs.Tables.{none, says, shows, no_bytes}
+use Rattle.library_calls.specs.Messages.{encode_said, filler, after, decoded_said, read_said, encoded_said, write_said}
 use Rattle.refusal.specs.declared.Refusal.{Refusal}
 
-pub encode_shown : (v : ℕ) {o x : List ℕ} {n : ℕ} → o ≡ no_bytes_lem → x ≡ sets o 0 (encoded v) → n ≡ length (encoded v)
+pub encode_shown : (v : ℕ) {o x : List ℕ} {n : ℕ} → o ≡ no_bytes → x ≡ sets o 0 (encoded v) → n ≡ length (encoded v)
     → shows 1 (0 ∷ n ∷ 0 ∷ 0 ∷ 0 ∷ 0 ∷ []) x ≡ encode_said v
 unfolding encode_said printed
 encode_shown v e f g = rw (f, e, g)
@@ -32,7 +28,7 @@ filled_length e = ap length e ∙ length-replicate {A = ℕ} 8192 238
 
 filled_part : (n : ℕ) {b : List ℕ} → b ≡ filler 8192 → n ≤ 8192 → take n b ≡ filler n
 unfolding filler
-filled_part n e h = rw e (take_replicate n 8192 238 h)
+filled_part n e h = rw e (take-replicate n 8192 238 h)
 
 pub read_long : (m : List ℕ) (room : ℕ) → 8192 < room → says 3 none ≡ read_said m room
 unfolding read_said
@@ -61,8 +57,3 @@ module _ (m : List ℕ) (room : ℕ) {b x : List ℕ} (h : room ≤ 8192) (e : b
   pub write_shown : (kind : Kind) {r : Result ℕ Refusal} → r ≡ encode_of kind m (length (take room b)) → x ≡ encode_into kind m (take room b) → encoded_said r room (x ++ drop room b) ≡ write_said kind m room
   unfolding write_said
   write_shown kind f g = rw (after_is room x h (k ∙ sized room h e) e, le-ltb 8192 room h, f, g, sized room h e, filled_part room e h)
-
-pub by_table : (table line : List ℕ) {c : Call} {b : Bytes} {said : Said} → c ≡ call_of table line → b ≡ decoded line (get_or c.words 0 0) (get_or c.words 1 0)
-    → said ≡ message_said c.row c.words (take b.len b.bytes) → answer_text table c.found c.row said ≡ text_by table line
-unfolding text_by
-by_table table line {c} e f g = rw (g, whole line (get_or c.words 0 0) (get_or c.words 1 0) f, e)

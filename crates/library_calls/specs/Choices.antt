@@ -1,5 +1,5 @@
 -- Calls of `address` and `candidates` (RULES.md, sections 6 and 7): each row's call, and what is answered to it.
-use Rattle.std.specs.Prelude.{ℕ, List, [], ◌∷◌, ◌++◌, Bool, true, false, get_or, eqb, Err, None, Ok, Option, Result, Some, ⊤}
+use Rattle.std.specs.Prelude.{ℕ, List, [], ◌∷◌, ◌++◌, Bool, true, false, get_or, eqb, Err, None, Ok, Option, Result, Some}
 use Rattle.prelude.specs.Choice.{pick}
 use Rattle.text.specs.Words.{ascii}
 use Rattle.text.specs.Printed.{printed}
@@ -8,8 +8,8 @@ use Rattle.wire.specs.Lists.{entries}
 use Rattle.address.specs.Multiaddr.{parsed}
 use Rattle.address.specs.Words.{may_be_target}
 use Rattle.candidates.specs.Selection.{usual, usually, selected, own, bounded, answered}
-use Rattle.candidates.specs.declared.Chosen.{Chosen}
-use Rattle.call_table.specs.Tables.{call_of, bytes_in, none, says, shows, no_bytes_lem, answer_text}
+use Rattle.candidates.specs.Selection.{Chosen}
+use Rattle.call_table.specs.Tables.{bytes_in, none, says, shows, yes_said, no_bytes, text_by}
 use Rattle.call_table.specs.declared.Said.{Said}
 use Rattle.call_table.specs.declared.Call.{Call}
 use Rattle.address.specs.declared.Ip.{Ip}
@@ -24,9 +24,6 @@ choices_table =
     ++ ascii "do=own list=%|kept=%|refused why=#\n"
     ++ ascii "do=bound list=%|kept=%|refused why=#"
 
-abbrev pub yes_said : Bool → Said
-yes_said passes = pick passes (says 1 none) (says 2 none)
-
 -- whether an address may be a target, where the bytes are one
 abbrev pub eligible_said : Bool → Option (Ip × ℕ) → Said
 eligible_said private (Some (ip, port)) = yes_said (may_be_target private ip)
@@ -34,7 +31,7 @@ eligible_said private None = says 3 none
 
 -- the list kept is the first bytes
 abbrev pub selection_said : Result Chosen Refusal → Said
-selection_said (Ok c) = shows 1 (0 ∷ c.len ∷ 0 ∷ 0 ∷ 0 ∷ 0 ∷ []) (printed no_bytes_lem 0 c.bytes)
+selection_said (Ok c) = shows 1 (0 ∷ c.len ∷ 0 ∷ 0 ∷ 0 ∷ 0 ∷ []) (printed no_bytes 0 c.bytes)
 selection_said (Err why) = says 2 (number_of why ∷ 0 ∷ 0 ∷ 0 ∷ 0 ∷ 0 ∷ [])
 
 -- what is answered to each row's call, with its bytes
@@ -50,9 +47,6 @@ choice_said row bytes =
 abbrev pub said_of : List ℕ → Call → Said
 said_of line c = choice_said c.row (bytes_in line (get_or c.words 0 0) (get_or c.words 1 0))
 
-unfoldable pub text_by : List ℕ → List ℕ → List ℕ
-text_by table line = answer_text table (call_of table line).found (call_of table line).row (said_of line (call_of table line))
-
 -- what is printed of a line; nothing where it is none of these calls
 abbrev pub choices_text : List ℕ → List ℕ
-choices_text line = text_by choices_table line
+choices_text line = text_by choices_table (said_of line) line

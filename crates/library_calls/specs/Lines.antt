@@ -3,7 +3,7 @@ use Rattle.std.specs.Prelude.{ℕ, List, Bool, true, None, Option}
 use Rattle.prelude.specs.Choice.{pick}
 use Rattle.schedule.specs.declared.BlastSchedule.{BlastSchedule}
 use Rattle.schedule.specs.declared.BlastSchedule.TheVariants.{Over}
-use Rattle.call_table.specs.Tables.{call_of}
+use Rattle.call_table.specs.Tables.{among}
 use Rattle.library_calls.specs.declared.Kept.{Kept}
 use Rattle.library_calls.specs.Messages.{messages_table, messages_text}
 use Rattle.library_calls.specs.Choices.{choices_table, choices_text}
@@ -25,10 +25,6 @@ pub record Turn : Type 0 where
 
 abbrev pub turn : Bool → Kept → List ℕ → Turn
 turn found kept text = record { found = found; kept = kept; text = text }
-
--- whether a line has one of a table's forms
-abbrev pub among : List ℕ → List ℕ → Bool
-among table line = (call_of table line).found
 
 unfoldable pub turn_of : Kept → List ℕ → Turn
 turn_of kept line =

@@ -13,7 +13,7 @@ use Rattle.message.specs.Message.{decode_of, decode_into}
 use Rattle.message.specs.Encoding.{encode_of, encode_into}
 use Rattle.message.specs.declared.Kind.{Kind}
 use Rattle.message.specs.declared.Kind.TheVariants.{Connect, Sync}
-use Rattle.call_table.specs.Tables.{call_of, bytes_in, none, says, shows, no_bytes_lem, answer_text}
+use Rattle.call_table.specs.Tables.{bytes_in, none, says, shows, no_bytes, text_by}
 use Rattle.call_table.specs.declared.Said.{Said}
 use Rattle.call_table.specs.declared.Call.{Call}
 use Rattle.refusal.specs.declared.Refusal.{Refusal}
@@ -34,7 +34,7 @@ varint_said None = says 2 none
 
 -- the bytes shown are the first
 unfoldable pub encode_said : ℕ → Said
-encode_said v = shows 1 (0 ∷ length (encoded v) ∷ 0 ∷ 0 ∷ 0 ∷ 0 ∷ []) (printed no_bytes_lem 0 (encoded v))
+encode_said v = shows 1 (0 ∷ length (encoded v) ∷ 0 ∷ 0 ∷ 0 ∷ 0 ∷ []) (printed no_bytes 0 (encoded v))
 
 abbrev pub frame_said : Frame → Said
 frame_said (frame.Whole start len) = says 1 (start ∷ len ∷ 0 ∷ 0 ∷ 0 ∷ 0 ∷ [])
@@ -84,9 +84,6 @@ message_said row w bytes =
 abbrev pub said_of : List ℕ → Call → Said
 said_of line c = message_said c.row c.words (bytes_in line (get_or c.words 0 0) (get_or c.words 1 0))
 
-unfoldable pub text_by : List ℕ → List ℕ → List ℕ
-text_by table line = answer_text table (call_of table line).found (call_of table line).row (said_of line (call_of table line))
-
 -- what is printed of a line; nothing where it is none of these calls
 abbrev pub messages_text : List ℕ → List ℕ
-messages_text line = text_by messages_table line
+messages_text line = text_by messages_table (said_of line) line

@@ -1,54 +1,42 @@
 // Calls of `budget`, on one budget.
 ghost use Rattle.std.specs.Prelude.{◌≡◌};
-ghost use Rattle.prelude.specs.Choice.{bit};
-ghost use Rattle.text.specs.Printed.{printed, behind};
-ghost use Rattle.call_table.specs.Tables.{call_of};
-ghost use Rattle.library_calls.specs.Budgets.{turned, armed_turn, begun_turn, due_said, state_said, kept_turn, budget_turn, turn_by, text_by, budget_after, budgets_text, budgets_table};
+ghost use Rattle.text.specs.Printed.{page, with_text};
+ghost use Rattle.call_table.specs.Tables.{among};
+ghost use Rattle.library_calls.specs.Budgets.{turned, armed_turn, begun_turn, due_said, state_said, kept_turn, budget_turn, budget_after, budgets_text, budgets_table};
 
+use crate::Turn;
 use budget::{UpgradeBudget, UpgradeStop};
-use call_table::Said;
-
-// What is kept after a call, and what is said of it.
-#[derive(Clone, Copy)]
-pub struct Turn {
-    pub kept: Option<UpgradeBudget>,
-    pub said: Said,
-}
-
-fn one_if(v: bool) -> u64
-    ensures { result ≡ bit v }
-{
-    if v { 1 } else { 0 }
-}
+use call_table::{Said, Words};
+use text::Printer;
 
 #[tactic(auto, unfolding(crate::specs::Budgets::state_said))]
 fn state_said(b: UpgradeBudget) -> Said
     ensures { result ≡ state_said b }
 {
     let rounds = b.rounds();
-    let left = one_if(b.rounds_left());
+    let left = u64::from(b.rounds_left());
     let deadline = b.deadline();
     let next = b.next_deadline();
     call_table::say(2, [rounds as u64, left, deadline, next, 0, 0])
 }
 
-fn turned(b: UpgradeBudget, said: Said) -> Turn
+fn turned(b: UpgradeBudget, said: Said) -> Turn<Option<UpgradeBudget>>
     ensures { result ≡ turned b said }
 {
     Turn {
         kept: Some(b),
-        said: said,
+        said,
     }
 }
 
 #[tactic(auto, unfolding(crate::specs::Budgets::begun_turn))]
-fn begun(b: UpgradeBudget, at: u64) -> Turn
+fn begun(b: UpgradeBudget, at: u64) -> Turn<Option<UpgradeBudget>>
     ensures { result ≡ begun_turn b at }
 {
-    let began = one_if(b.may_begin(at));
+    let began = u64::from(b.may_begin(at));
     let next = b.begin_round(at);
     let rounds = next.rounds();
-    let left = one_if(next.rounds_left());
+    let left = u64::from(next.rounds_left());
     let deadline = next.deadline();
     let end = next.next_deadline();
     turned(
@@ -61,7 +49,7 @@ fn due_said(stop: Option<UpgradeStop>) -> Said
     ensures { result ≡ due_said stop }
 {
     match stop {
-        None => call_table::say(2, [0; 6]),
+        None => call_table::say(2, call_table::NONE),
         Some(UpgradeStop::ExchangeTimeout { round, budget_ms }) => {
             call_table::say(3, [round as u64, budget_ms, 0, 0, 0, 0])
         }
@@ -73,7 +61,7 @@ fn due_said(stop: Option<UpgradeStop>) -> Said
 
 // The calls but for an arm, on a budget.
 #[tactic(auto, unfolding(crate::specs::Budgets::armed_turn))]
-fn armed(b: UpgradeBudget, row: usize, at: u64) -> Turn
+fn armed(b: UpgradeBudget, row: usize, at: u64) -> Turn<Option<UpgradeBudget>>
     ensures { result ≡ armed_turn b row at }
 {
     match row {
@@ -90,20 +78,20 @@ fn armed(b: UpgradeBudget, row: usize, at: u64) -> Turn
     }
 }
 
-fn kept_turn(kept: Option<UpgradeBudget>, row: usize, at: u64) -> Turn
+fn kept_turn(kept: Option<UpgradeBudget>, row: usize, at: u64) -> Turn<Option<UpgradeBudget>>
     ensures { result ≡ kept_turn kept row at }
 {
     match kept {
         None => Turn {
             kept: None,
-            said: call_table::say(1, [0; 6]),
+            said: call_table::say(1, call_table::NONE),
         },
         Some(b) => armed(b, row, at),
     }
 }
 
 #[tactic(auto, unfolding(crate::specs::Budgets::budget_turn))]
-fn respond(kept: Option<UpgradeBudget>, row: usize, w: [u64; 8]) -> Turn
+fn respond(kept: Option<UpgradeBudget>, row: usize, w: Words) -> Turn<Option<UpgradeBudget>>
     ensures { result ≡ budget_turn kept row w }
 {
     match row {
@@ -115,55 +103,31 @@ fn respond(kept: Option<UpgradeBudget>, row: usize, w: [u64; 8]) -> Turn
     }
 }
 
-// Whether the line is one of these calls, what is kept, and where the answer ends in the buffer.
-#[derive(Clone, Copy)]
-pub struct Answered {
-    pub found: bool,
-    pub kept: Option<UpgradeBudget>,
-    pub end: usize,
-}
-
-fn answer_by(table: &[u8], kept: Option<UpgradeBudget>, line: &[u8], out: &mut [u8]) -> Answered
-    ensures found { result.found ≡ (call_of table.now line.now).found }
-    ensures kept { result.kept ≡ (turn_by table.now kept line.now).kept }
-    ensures bytes { out.new ≡ printed out.old 0 (text_by table.now kept line.now) }
-    ensures place { result.end ≡ behind out.old 0 (text_by table.now kept line.now) }
+// The forms of the calls and of their answers.
+#[tactic(auto, unfolding(crate::specs::Budgets::budgets_table))]
+fn table() -> &'static [u8]
+    ensures { result.now ≡ budgets_table }
 {
-    let c = call_table::call_of(table, line);
-    if c.found {
-        let w = c.words;
-        let t = respond(kept, c.row, w);
-        let next = t.kept;
-        let said = t.said;
-        let end = call_table::put_said(table, c.row, said, out);
-        return Answered {
-            found: true,
-            kept: next,
-            end: end,
-        };
-    }
-    Answered {
-        found: false,
-        kept: kept,
-        end: 0,
-    }
-}
-
-// Answers a line that is one of these calls; another prints nothing and leaves what is kept.
-pub fn answer(kept: Option<UpgradeBudget>, line: &[u8], out: &mut [u8]) -> Answered
-    ensures found { result.found ≡ (call_of budgets_table line.now).found }
-    ensures kept { result.kept ≡ budget_after kept line.now }
-    ensures bytes { out.new ≡ printed out.old 0 (budgets_text kept line.now) }
-    ensures place { result.end ≡ behind out.old 0 (budgets_text kept line.now) }
-{
-    answer_by(
-        b"do=arm at=# upgrade=# exchange=# punch=#|bad|rounds=# left=# deadline=# next=#
+    b"do=arm at=# upgrade=# exchange=# punch=#|bad|rounds=# left=# deadline=# next=#
 do=begin at=#|bad|began=# rounds=# left=# deadline=# next=#
 do=end|bad|rounds=# left=# deadline=# next=#
 do=window start=#|bad|end=#
-do=due at=#|bad|due=none|due=exchange round=# ms=#|due=upgrade ms=#",
-        kept,
-        line,
-        out,
-    )
+do=due at=#|bad|due=none|due=exchange round=# ms=#|due=upgrade ms=#"
+}
+
+// Answers a line that is one of these calls; another prints nothing and leaves what is kept: whether it is one.
+#[tactic(auto, unfolding(call_table::specs::Tables::turn_by), using(text::proofs::Printing::with_none))]
+pub fn answer(kept: &mut Option<UpgradeBudget>, line: &[u8], printer: &mut Printer<'_>) -> bool
+    ensures found { result ≡ among budgets_table line.now }
+    ensures kept { kept.new ≡ budget_after kept.old line.now }
+    ensures printed { page printer.new ≡ with_text (page printer.old) (budgets_text kept.old line.now) }
+{
+    let table = table();
+    let Some(call) = call_table::call_of(table, line) else {
+        return false;
+    };
+    let turn = respond(*kept, call.row, call.words);
+    *kept = turn.kept;
+    call_table::put_said(table, call.row, turn.said, printer);
+    true
 }

@@ -1,27 +1,22 @@
 // Calls of `address` and `candidates`.
 ghost use Rattle.std.specs.Prelude.{◌≡◌};
-ghost use Rattle.text.specs.Printed.{printed, behind};
+ghost use Rattle.text.specs.Printed.{page, with_text};
 ghost use Rattle.address.specs.Multiaddr.{parsed};
-ghost use Rattle.call_table.specs.Tables.{call_of};
-ghost use Rattle.library_calls.specs.Choices.{yes_said, eligible_said, selection_said, choice_said, text_by, choices_text, choices_table};
+ghost use Rattle.call_table.specs.Tables.{among};
+ghost use Rattle.library_calls.specs.Choices.{eligible_said, selection_said, choice_said, choices_text, choices_table};
 
-use call_table::{Answered, Said};
+use call_table::Said;
 use candidates::{Chosen, Limits, Terms};
 use refusal::Refusal;
-
-fn yes_said(yes: bool) -> Said
-    ensures { result ≡ yes_said yes }
-{
-    call_table::say(if yes { 1 } else { 2 }, [0; 6])
-}
+use text::Printer;
 
 #[tactic(auto, unfolding(address::specs::Multiaddr::parsed))]
 fn eligible(private: bool, bytes: &[u8]) -> Said
     ensures { result ≡ eligible_said private (parsed bytes.now) }
 {
     match address::parse(bytes) {
-        Some((ip, _)) => yes_said(address::eligible(ip, private)),
-        None => call_table::say(3, [0; 6]),
+        Some((ip, _)) => call_table::yes_said(address::eligible(ip, private)),
+        None => call_table::say(3, call_table::NONE),
     }
 }
 
@@ -52,34 +47,32 @@ fn respond(row: usize, bytes: &[u8]) -> Said
     }
 }
 
-fn answer_by(table: &[u8], line: &[u8], out: &mut [u8]) -> Answered
-    ensures found { result.found ≡ (call_of table.now line.now).found }
-    ensures bytes { out.new ≡ printed out.old 0 (text_by table.now line.now) }
-    ensures place { result.end ≡ behind out.old 0 (text_by table.now line.now) }
+// The forms of the calls and of their answers.
+#[tactic(auto, unfolding(crate::specs::Choices::choices_table))]
+fn table() -> &'static [u8]
+    ensures { result.now ≡ choices_table }
 {
-    let c = call_table::call_of(table, line);
-    let w = c.words;
-    let b = call_table::bytes_in(line, w[0], w[1]);
-    let bytes = b.bytes;
-    let n = b.len;
-    let said = respond(c.row, &bytes[..n]);
-    call_table::put_answer(table, c.found, c.row, said, out)
-}
-
-// Answers a line that is one of these calls, and prints nothing of another.
-pub fn answer(line: &[u8], out: &mut [u8]) -> Answered
-    ensures found { result.found ≡ (call_of choices_table line.now).found }
-    ensures bytes { out.new ≡ printed out.old 0 (choices_text line.now) }
-    ensures place { result.end ≡ behind out.old 0 (choices_text line.now) }
-{
-    answer_by(
-        b"do=eligible private=0 address=%|yes|no|none
+    b"do=eligible private=0 address=%|yes|no|none
 do=eligible private=1 address=%|yes|no|none
 do=select private=0 list=%|kept=%|refused why=#
 do=select private=1 list=%|kept=%|refused why=#
 do=own list=%|kept=%|refused why=#
-do=bound list=%|kept=%|refused why=#",
-        line,
-        out,
-    )
+do=bound list=%|kept=%|refused why=#"
+}
+
+// Answers a line that is one of these calls, and prints nothing of another: whether it is one.
+#[tactic(auto, unfolding(call_table::specs::Tables::turn_by), using(text::proofs::Printing::with_none))]
+pub fn answer(line: &[u8], printer: &mut Printer<'_>) -> bool
+    ensures found { result ≡ among choices_table line.now }
+    ensures printed { page printer.new ≡ with_text (page printer.old) (choices_text line.now) }
+{
+    let table = table();
+    let Some(call) = call_table::call_of(table, line) else {
+        return false;
+    };
+    let w = call.words;
+    let mut room = call_table::blank();
+    let n = call_table::bytes_in(line, w[0], w[1], &mut room);
+    call_table::put_said(table, call.row, respond(call.row, &room[..n]), printer);
+    true
 }

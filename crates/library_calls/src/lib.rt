@@ -2,16 +2,26 @@
 #![tactic(auto)]
 
 ghost use Rattle.std.specs.Prelude.{◌≡◌};
-ghost use Rattle.text.specs.Printed.{printed, behind};
+ghost use Rattle.text.specs.Printed.{page, with_text};
 ghost use Rattle.library_calls.specs.Lines.{nothing, turn_of};
 
 use budget::UpgradeBudget;
+use call_table::Said;
 use schedule::BlastSchedule;
+use text::Printer;
 
+// Each has an `answer` of its own, whose clauses equate what is kept with a definition; one with a closure would only relate them.
 pub mod budgets;
 pub mod choices;
 pub mod messages;
 pub mod schedules;
+
+// What is kept after a call of one library, and what is said of it.
+#[derive(Clone, Copy)]
+pub struct Turn<T> {
+    pub kept: T,
+    pub said: Said,
+}
 
 // What is kept from line to line.
 #[derive(Clone, Copy)]
@@ -30,59 +40,15 @@ pub fn nothing() -> Kept
     }
 }
 
-// Whether the line is a call of these libraries, what is kept after it, and where its answer ends in the buffer.
-#[derive(Clone, Copy)]
-pub struct Answered {
-    pub found: bool,
-    pub kept: Kept,
-    pub end: usize,
-}
-
-// A line without its line feed, by the first table that has its form.
-pub fn answer(kept: Kept, line: &[u8], out: &mut [u8]) -> Answered
-    ensures found { result.found ≡ (turn_of kept line.now).found }
-    ensures kept { result.kept ≡ (turn_of kept line.now).kept }
-    ensures bytes { out.new ≡ printed out.old 0 (turn_of kept line.now).text }
-    ensures place { result.end ≡ behind out.old 0 (turn_of kept line.now).text }
+// Answers a line without its line feed, by the first table that has its form: whether one has.
+#[tactic(auto, unfolding(crate::specs::Lines::turn_of), using(call_table::proofs::Calling::not_made, text::proofs::Printing::with_none))]
+pub fn answer(kept: &mut Kept, line: &[u8], printer: &mut Printer<'_>) -> bool
+    ensures found { result ≡ (turn_of kept.old line.now).found }
+    ensures kept { kept.new ≡ (turn_of kept.old line.now).kept }
+    ensures printed { page printer.new ≡ with_text (page printer.old) (turn_of kept.old line.now).text }
 {
-    let budget = kept.budget;
-    let schedule = kept.schedule;
-    let m = messages::answer(line, out);
-    if m.found {
-        return Answered {
-            found: true,
-            kept: kept,
-            end: m.end,
-        };
-    }
-    let c = choices::answer(line, out);
-    if c.found {
-        return Answered {
-            found: true,
-            kept: kept,
-            end: c.end,
-        };
-    }
-    let b = budgets::answer(budget, line, out);
-    if b.found {
-        let next = b.kept;
-        return Answered {
-            found: true,
-            kept: Kept {
-                budget: next,
-                schedule: schedule,
-            },
-            end: b.end,
-        };
-    }
-    let s = schedules::answer(schedule, line, out);
-    let next = s.schedule;
-    Answered {
-        found: s.found,
-        kept: Kept {
-            budget: budget,
-            schedule: next,
-        },
-        end: s.end,
-    }
+    messages::answer(line, printer)
+        || choices::answer(line, printer)
+        || budgets::answer(&mut kept.budget, line, printer)
+        || schedules::answer(&mut kept.schedule, line, printer)
 }

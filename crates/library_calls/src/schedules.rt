@@ -1,35 +1,21 @@
 // Calls of `schedule`, on one schedule.
 ghost use Rattle.std.specs.Prelude.{◌≡◌};
-ghost use Rattle.text.specs.Printed.{printed, behind};
-ghost use Rattle.call_table.specs.Tables.{call_of};
-ghost use Rattle.library_calls.specs.Schedules.{next_given, next_at, end_of, opened_turn, replied_turn, due_turn, schedule_turn, turn_by, text_by, schedule_after, schedules_text, schedules_table};
+ghost use Rattle.text.specs.Printed.{page, with_text};
+ghost use Rattle.call_table.specs.Tables.{among};
+ghost use Rattle.library_calls.specs.Schedules.{next, end_of, opened_turn, replied_turn, due_turn, schedule_turn, schedule_after, schedules_text, schedules_table};
 
-use call_table::Said;
+use crate::Turn;
+use call_table::{Said, Words};
 use schedule::{BlastSchedule, NewlyDue};
+use text::Printer;
 
-// The schedule after a call, and what is said of it.
-#[derive(Clone, Copy)]
-pub struct Turn {
-    pub schedule: BlastSchedule,
-    pub said: Said,
-}
-
-// The next instant as a value that may be missing: whether there is one, and it.
-fn next_given(s: BlastSchedule) -> u64
-    ensures { result ≡ next_given s }
+// The next instant, where there is one.
+fn next(s: BlastSchedule) -> Option<u64>
+    ensures { result ≡ next s }
 {
     match s {
-        BlastSchedule::Next { at: _, until: _ } => 1,
-        BlastSchedule::Over => 0,
-    }
-}
-
-fn next_at(s: BlastSchedule) -> u64
-    ensures { result ≡ next_at s }
-{
-    match s {
-        BlastSchedule::Next { at, until: _ } => at,
-        BlastSchedule::Over => 0,
+        BlastSchedule::Next { at, .. } => Some(at),
+        BlastSchedule::Over => None,
     }
 }
 
@@ -37,24 +23,22 @@ fn next_at(s: BlastSchedule) -> u64
 fn window_end(start: u64, punch: u64, deadline: u64) -> u64
     ensures { result ≡ end_of start punch deadline }
 {
-    time::min(time::saturating_add(start, punch), deadline)
+    time::saturating_add(start, punch).min(deadline)
 }
 
-fn opened(start: u64, end: u64, d: NewlyDue) -> Turn
+fn opened(start: u64, end: u64, d: NewlyDue) -> Turn<BlastSchedule>
     ensures { result ≡ opened_turn start end d }
 {
-    let s = d.schedule;
-    let given = next_given(s);
-    let at = next_at(s);
+    let kept = d.schedule;
+    let next = next(kept);
+    let given = u64::from(next.is_some());
+    let at = next.unwrap_or(0);
     let said = call_table::say(1, [d.times, start, end, given, at, 0]);
-    Turn {
-        schedule: s,
-        said: said,
-    }
+    Turn { kept, said }
 }
 
 #[tactic(auto, unfolding(crate::specs::Schedules::replied_turn))]
-fn replied(at: u64, rtt: u64, deadline: u64, punch: u64, interval: u64) -> Turn
+fn replied(at: u64, rtt: u64, deadline: u64, punch: u64, interval: u64) -> Turn<BlastSchedule>
     ensures { result ≡ replied_turn at rtt deadline punch interval }
 {
     let start = schedule::blast_start(at, rtt);
@@ -63,74 +47,49 @@ fn replied(at: u64, rtt: u64, deadline: u64, punch: u64, interval: u64) -> Turn
     opened(start, end, d)
 }
 
-fn due(d: NewlyDue) -> Turn
+fn due(d: NewlyDue) -> Turn<BlastSchedule>
     ensures { result ≡ due_turn d }
 {
-    let s = d.schedule;
-    let given = next_given(s);
-    let at = next_at(s);
+    let kept = d.schedule;
+    let next = next(kept);
+    let given = u64::from(next.is_some());
+    let at = next.unwrap_or(0);
     let said = call_table::say(1, [d.times, given, at, 0, 0, 0]);
-    Turn {
-        schedule: s,
-        said: said,
-    }
+    Turn { kept, said }
 }
 
-fn respond(s: BlastSchedule, row: usize, w: [u64; 8]) -> Turn
+#[tactic(auto, unfolding(crate::specs::Schedules::schedule_turn))]
+fn respond(s: BlastSchedule, row: usize, w: Words) -> Turn<BlastSchedule>
     ensures { result ≡ schedule_turn s row w }
 {
-    if row == 0 {
-        return replied(w[0], w[1], w[2], w[3], w[4]);
+    match row {
+        0 => replied(w[0], w[1], w[2], w[3], w[4]),
+        _ => due(s.newly_due(w[1], w[0])),
     }
-    due(s.newly_due(w[1], w[0]))
 }
 
-// Whether the line is one of these calls, the schedule, and where the answer ends in the buffer.
-#[derive(Clone, Copy)]
-pub struct Answered {
-    pub found: bool,
-    pub schedule: BlastSchedule,
-    pub end: usize,
-}
-
-fn answer_by(table: &[u8], s: BlastSchedule, line: &[u8], out: &mut [u8]) -> Answered
-    ensures found { result.found ≡ (call_of table.now line.now).found }
-    ensures schedule { result.schedule ≡ (turn_by table.now s line.now).schedule }
-    ensures bytes { out.new ≡ printed out.old 0 (text_by table.now s line.now) }
-    ensures place { result.end ≡ behind out.old 0 (text_by table.now s line.now) }
+// The forms of the calls and of their answers.
+#[tactic(auto, unfolding(crate::specs::Schedules::schedules_table))]
+fn table() -> &'static [u8]
+    ensures { result.now ≡ schedules_table }
 {
-    let c = call_table::call_of(table, line);
-    if c.found {
-        let w = c.words;
-        let t = respond(s, c.row, w);
-        let next = t.schedule;
-        let said = t.said;
-        let end = call_table::put_said(table, c.row, said, out);
-        return Answered {
-            found: true,
-            schedule: next,
-            end: end,
-        };
-    }
-    Answered {
-        found: false,
-        schedule: s,
-        end: 0,
-    }
+    b"do=reply at=# rtt=# deadline=# punch=# interval=#|times=# start=# end=# next=*
+do=tick at=# interval=#|times=# next=*"
 }
 
-// Answers a line that is one of these calls; another prints nothing and leaves the schedule.
-pub fn answer(s: BlastSchedule, line: &[u8], out: &mut [u8]) -> Answered
-    ensures found { result.found ≡ (call_of schedules_table line.now).found }
-    ensures schedule { result.schedule ≡ schedule_after s line.now }
-    ensures bytes { out.new ≡ printed out.old 0 (schedules_text s line.now) }
-    ensures place { result.end ≡ behind out.old 0 (schedules_text s line.now) }
+// Answers a line that is one of these calls; another prints nothing and leaves the schedule: whether it is one.
+#[tactic(auto, unfolding(call_table::specs::Tables::turn_by), using(text::proofs::Printing::with_none))]
+pub fn answer(s: &mut BlastSchedule, line: &[u8], printer: &mut Printer<'_>) -> bool
+    ensures found { result ≡ among schedules_table line.now }
+    ensures schedule { s.new ≡ schedule_after s.old line.now }
+    ensures printed { page printer.new ≡ with_text (page printer.old) (schedules_text s.old line.now) }
 {
-    answer_by(
-        b"do=reply at=# rtt=# deadline=# punch=# interval=#|times=# start=# end=# next=*
-do=tick at=# interval=#|times=# next=*",
-        s,
-        line,
-        out,
-    )
+    let table = table();
+    let Some(call) = call_table::call_of(table, line) else {
+        return false;
+    };
+    let turn = respond(*s, call.row, call.words);
+    *s = turn.kept;
+    call_table::put_said(table, call.row, turn.said, printer);
+    true
 }

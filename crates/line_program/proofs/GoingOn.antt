@@ -2,6 +2,8 @@
 use mathlib.Core.Path.{◌≡◌, refl, sym, ap, subst, ◌∙◌}
 use mathlib.Core.List.{List, [], ◌∷◌, ◌++◌, append-nil, append_assoc}
 use mathlib.Core.Bool.{Bool, true, false, not}
+use Rattle.std.specs.Prelude.{Option, Some, None, is_some}
+use Rattle.std.specs.Bool.{then_some}
 use Prim.Native.Nat.{ℕ, zero, suc, ◌+◌, ◌*◌, ◌-◌, ◌<◌, ◌≤◌, min}
 use native.Mathlib.Omega.{arith}
 use lib.Dec.{ltb, eqb}
@@ -16,7 +18,9 @@ use Rattle.lines.specs.Lines.{text_from, end_from, gathered}
 use Rattle.lines.specs.declared.Gathered.{Gathered}
 use Rattle.lines.proofs.Feeds.{joined}
 use Rattle.line_program.specs.declared.Reading.{Reading}
-use Rattle.line_program.specs.Reads.{left, has_line, feed, refilled, Read, Turned}
+use Rattle.line_program.specs.declared.End.{End}
+use Rattle.line_program.specs.declared.End.TheVariants.{LineFeed, Input, Failure}
+use Rattle.line_program.specs.Reads.{left, has_line, has_feed, has_more, has_failed, feed, refilled, Read, Turned}
 
 -- ---- line feeds
 
@@ -64,7 +68,7 @@ pub apart : {A : Type 0} → true ≡ false → A
 apart e = let z : ◌≡◌ {A = ℕ} 0 1 = cc in absurd (omega arith)
 
 -- nothing has been read yet
-unread : (line block : List ℕ) (r : Reading) → r.ended ≡ false → r.more ≡ true → (r.failed ≡ true → r.more ≡ false) → Read line r.used (left block r.from r.until) block line r
+unread : (line block : List ℕ) (r : Reading) → has_feed r.end ≡ false → has_more r.end ≡ true → (has_failed r.end ≡ true → has_more r.end ≡ false) → Read line r.used (left block r.from r.until) block line r
 unfolding length_before
 unread line block r e m f =
     record {
@@ -78,13 +82,14 @@ unread line block r e m f =
       failing = f;
     }
 
-pub yet : (b : Bool) → not b ≡ false → b ≡ true
-yet true e = refl
-yet false e = sym e
+-- without an end it goes on
+pub unended : (end : Option End) → is_some end ≡ false → (has_feed end ≡ false) × (has_more end ≡ true)
+unended None h = (refl, refl)
+unended (Some x) h = apart h
 
 -- a line goes on where it was
 unfoldable joins : {line : List ℕ} {used : ℕ} {had block after : List ℕ} {r : Reading} {block' after' : List ℕ} {r' : Reading}
-    → Read line used had block after r → r.ended ≡ false → Read after r.used (left block r.from r.until) block' after' r'
+    → Read line used had block after r → has_feed r.end ≡ false → Read after r.used (left block r.from r.until) block' after' r'
     → Read line used had block' after' r'
 joins {line} {used} {had} {block} {after} {r} {block'} {after'} {r'} x e y =
     let l : Laid line used (x.text ++ y.text) after' r'.used =
@@ -101,7 +106,7 @@ joins {line} {used} {had} {block} {after} {r} {block'} {after'} {r'} x e y =
           ∙ ap (λ (s : List ℕ). s ++ y.brought) w
           ∙ append_assoc x.text (left block r.from r.until) y.brought
           ∙ ap (λ (s : List ℕ). x.text ++ s) y.whole
-          ∙ sym (append_assoc x.text y.text (feed r'.ended ++ left block' r'.from r'.until));
+          ∙ sym (append_assoc x.text y.text (feed (has_feed r'.end) ++ left block' r'.from r'.until));
       plain = plain_joined x.text y.text x.plain y.plain;
       bytes = l.bytes;
       place = l.place;
@@ -111,7 +116,7 @@ joins {line} {used} {had} {block} {after} {r} {block'} {after'} {r'} x e y =
 
 -- by one turn more
 pub goes_on : {turns n : ℕ} {line : List ℕ} {used : ℕ} {had block after : List ℕ} {r : Reading} {block' after' : List ℕ} {r' : Reading}
-    → Turned turns line used had block after r → r.ended ≡ false → r.more ≡ true
+    → Turned turns line used had block after r → has_feed r.end ≡ false → has_more r.end ≡ true
     → Turned 1 after r.used (left block r.from r.until) block' after' r'
     → n ≡ turns + 1 → Turned n line used had block' after' r'
 unfolding joins
@@ -121,12 +126,25 @@ goes_on x e m y k =
       taken = λ e' m'. omega (arith, x.taken e m, y.taken e' m', length-append x.read.text y.read.text);
     }
 
+-- how a line stands by whether a line feed was met
+fed : (b : Bool) → has_feed (then_some b LineFeed) ≡ b
+fed true = refl
+fed false = refl
+
+still_more : (b : Bool) → has_more (then_some b LineFeed) ≡ true
+still_more true = refl
+still_more false = refl
+
+unfailed : (b : Bool) → has_failed (then_some b LineFeed) ≡ false
+unfailed true = refl
+unfailed false = refl
+
 -- by what the block has of the line
 pub by_block : (block line : List ℕ) (used from until : ℕ) {g : Gathered} {after : List ℕ} → g ≡ gathered (take until block) from line used
     → after ≡ printed line used (text_from (take until block) from)
     → from < until → until ≤ length block
-    → Turned 1 line used (left block from until) block after (record { used = g.used; ended = g.ended; more = true; failed = false; from = g.next; until = until })
-by_block block line used from until {g} {after} e f h k = record { read = read; taken = λ d _. taken (sym (ap (λ (x : Gathered). x.ended) e) ∙ d) }
+    → Turned 1 line used (left block from until) block after (record { used = g.used; end = then_some g.ended LineFeed; from = g.next; until = until })
+by_block block line used from until {g} {after} e f h k = record { read = read; taken = λ d _. taken (sym (ap (λ (x : Gathered). x.ended) e) ∙ sym (fed g.ended) ∙ d) }
   where
     n : ℕ
     n = length_before 10 (left block from until)
@@ -142,16 +160,16 @@ by_block block line used from until {g} {after} e f h k = record { read = read; 
         let h : length (take until block) ≤ from + n = ltb-false _ _ d in
         rw (le-ltb n (length (left block from until)) (omega (arith, length-drop from (take until block))), drop-drop (suc n) from (take until block), drop_of_length-le (take until block) {i = from + suc n} (omega arith), drop_of_length-le (take until block) {i = from + n} h)
 
-    read : Read line used (left block from until) block after (record { used = g.used; ended = g.ended; more = true; failed = false; from = g.next; until = until })
+    read : Read line used (left block from until) block after (record { used = g.used; end = then_some g.ended LineFeed; from = g.next; until = until })
     read = record {
       brought = [];
       text = text_from (take until block) from;
-      whole = append-nil (left block from until) ∙ split (left block from until) ∙ rw (e) (cut (ltb (end_from (take until block) from) (length (take until block))) refl);
+      whole = append-nil (left block from until) ∙ split (left block from until) ∙ rw (fed g.ended, e) (cut (ltb (end_from (take until block) from) (length (take until block))) refl);
       plain = plain_before (left block from until);
       bytes = f;
       place = ap (λ (x : Gathered). x.used) e;
-      dry = λ d. apart d;
-      failing = λ d. apart (sym d);
+      dry = λ d. apart (sym (still_more g.ended) ∙ d);
+      failing = λ d. apart (sym d ∙ unfailed g.ended);
     }
 
     -- without a line feed the line has all that was left
@@ -162,11 +180,28 @@ by_block block line used from until {g} {after} e f h k = record { read = read; 
         omega (arith, length-take until block, length-drop from (take until block), length-take n (left block from until))
 
 -- by a block more, where the block has none left
-pub by_read : (block₀ block line : List ℕ) (used from until : ℕ) {r : Reading} → until ≤ from → r ≡ refilled used r.until r.failed → r.until ≤ length block
-    → (r.failed ≡ true → r.until ≡ 0) → Turned 1 line used (left block₀ from until) block line r
+pub by_read : (block₀ block line : List ℕ) (used from until : ℕ) {r : Reading} → until ≤ from → r ≡ refilled used r.until (has_failed r.end) → r.until ≤ length block
+    → (has_failed r.end ≡ true → r.until ≡ 0) → Turned 1 line used (left block₀ from until) block line r
 unfolding length_before
-by_read block₀ block line used from until {r} h e k z = record { read = read; taken = λ _ m. taken (sym (ap (λ (x : Reading). x.more) e) ∙ m) }
+by_read block₀ block line used from until {r} h e k z = record { read = read; taken = λ _ m. taken (sym has_bytes ∙ m) }
   where
+    no_feed : has_feed r.end ≡ false
+    no_feed = ap (λ (x : Reading). has_feed x.end) e ∙ go (has_failed r.end) (ltb 0 r.until)
+      where
+        go : (f t : Bool) → has_feed (pick f (Some Failure) (pick t None (Some Input))) ≡ false
+        go true t = refl
+        go false true = refl
+        go false false = refl
+
+    -- the input may have more where the block has a byte
+    has_bytes : has_more r.end ≡ ltb 0 r.until
+    has_bytes = ap (λ (x : Reading). has_more x.end) e ∙ go (has_failed r.end) (ltb 0 r.until) (λ d. le-ltb 0 r.until (omega (arith, z d)))
+      where
+        go : (f t : Bool) → (f ≡ true → t ≡ false) → has_more (pick f (Some Failure) (pick t None (Some Input))) ≡ t
+        go true t h = sym (h refl)
+        go false true h = refl
+        go false false h = refl
+
     none_left : ltb 0 r.until ≡ false → left block r.from r.until ≡ []
     none_left d =
         let h : r.until ≤ 0 = ltb-false 0 r.until d in
@@ -181,12 +216,12 @@ by_read block₀ block line used from until {r} h e k z = record { read = read; 
     read = record {
       brought = left block r.from r.until;
       text = [];
-      whole = rw (drop_of_length-le (take until block₀) {i = from} (omega (arith, length-take until block₀)), ap (λ (x : Reading). x.ended) e);
+      whole = rw (drop_of_length-le (take until block₀) {i = from} (omega (arith, length-take until block₀)), no_feed);
       plain = refl;
       bytes = (laid_none line used).bytes;
       place = ap (λ (x : Reading). x.used) e ∙ (laid_none line used).place;
-      dry = λ d. (ap (λ (x : Reading). x.ended) e, none_left (sym (ap (λ (x : Reading). x.more) e) ∙ d));
-      failing = λ d. ap (λ (x : Reading). x.more) e ∙ le-ltb 0 r.until (omega (arith, z d));
+      dry = λ d. (no_feed, none_left (sym has_bytes ∙ d));
+      failing = λ d. has_bytes ∙ le-ltb 0 r.until (omega (arith, z d));
     }
 
 -- a place past the block's end is its end
@@ -201,11 +236,11 @@ within block from until = go (ltb (length block) until) refl
 
 -- a line begins
 pub begun : (line block : List ℕ) (from until : ℕ) {stop : ℕ} → stop ≡ min until (length block)
-    → Turned 0 line 0 (left block from until) block line (record { used = 0; ended = false; more = true; failed = false; from = from; until = stop })
+    → Turned 0 line 0 (left block from until) block line (record { used = 0; end = None; from = from; until = stop })
 begun line block from until {stop} e =
-    subst (λ (had : List ℕ). Turned 0 line 0 had block line (record { used = 0; ended = false; more = true; failed = false; from = from; until = stop }))
+    subst (λ (had : List ℕ). Turned 0 line 0 had block line (record { used = 0; end = None; from = from; until = stop }))
     (ap (λ (k : ℕ). left block from k) e ∙ within block from until)
-    (record { read = unread line block (record { used = 0; ended = false; more = true; failed = false; from = from; until = stop }) refl refl (λ f. apart (sym f)); taken = λ _ _. omega arith })
+    (record { read = unread line block (record { used = 0; end = None; from = from; until = stop }) refl refl (λ f. apart (sym f)); taken = λ _ _. omega arith })
 
 -- ---- whole lines that are left
 
@@ -247,7 +282,7 @@ plain_part (b ∷ s) t h = go (eqb b 10) h (plain_part s t)
     go false k f = ap suc (f (omega arith))
 
 -- what was read to the input's end without a line feed had no whole line
-pub had_none : {line : List ℕ} {used : ℕ} {had block after : List ℕ} {r : Reading} → Read line used had block after r → r.ended ≡ false → r.more ≡ false
+pub had_none : {line : List ℕ} {used : ℕ} {had block after : List ℕ} {r : Reading} → Read line used had block after r → has_feed r.end ≡ false → has_more r.end ≡ false
     → has_line had ≡ false
 unfolding has_line
 had_none {had = had} {block = block} {r = r} x e m =

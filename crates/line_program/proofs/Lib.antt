@@ -1,3 +1,4 @@
 pub mod Answers
+pub mod Ends
 pub mod GoingOn
 pub mod HandsOver

@@ -4,45 +4,81 @@
 
 ghost use Rattle.std.specs.Prelude.{◌≡◌, true, ◌+◌, ◌≤◌, length, [], leb};
 ghost use Rattle.line_program.specs.Waits.{is_line, stays, waiting_after, handed_after};
-ghost use Rattle.line_program.specs.Reads.{left, has_line, refilled, Turned, NextLine};
+ghost use Rattle.line_program.specs.Reads.{left, has_line, has_feed, has_more, has_failed, refilled, Turned, NextLine};
 
 use std::io::{Read, Stdin, Stdout, Write};
 
-// A line's bytes are the first `used` of its buffer, which a line too long fills. A line feed ended it, or the input ended, where there is
-// no `more`, or failed. The block's bytes from `from` up to `until` are still to be read.
+// How many bytes a program's block of input has, and its buffer of output.
+pub const BUFFER: usize = 65536;
+
+// Why the reading of a line ended.
+#[derive(Clone, Copy)]
+pub enum End {
+    LineFeed,
+    Input,
+    Failure,
+}
+
+// A line's bytes are the first `used` of its buffer, which a line too long fills. It has no `end` while it goes on. The block's bytes from
+// `from` up to `until` are still to be read.
 #[derive(Clone, Copy)]
 pub struct Reading {
     pub used: usize,
-    pub ended: bool,
-    pub more: bool,
-    pub failed: bool,
+    pub end: Option<End>,
     pub from: usize,
     pub until: usize,
 }
 
+impl Reading {
+    // Whether a line feed ended the line.
+    pub fn has_feed(self) -> bool
+        ensures { result ≡ has_feed self.end }
+    {
+        matches!(self.end, Some(End::LineFeed))
+    }
+
+    // Whether the input may have more behind the line.
+    pub fn has_more(self) -> bool
+        ensures { result ≡ has_more self.end }
+    {
+        !matches!(self.end, Some(End::Input | End::Failure))
+    }
+
+    // Whether reading failed in it.
+    pub fn has_failed(self) -> bool
+        ensures { result ≡ has_failed self.end }
+    {
+        matches!(self.end, Some(End::Failure))
+    }
+
+    // Whether a line was read, and not the input's end or a failure. An empty line without a line feed is none.
+    pub fn is_line(self) -> bool
+        ensures { result ≡ is_line self.end self.used }
+    {
+        match self.end {
+            Some(End::LineFeed) => true,
+            Some(End::Failure) => false,
+            _ => 0 < self.used,
+        }
+    }
+}
+
 // Reads a block; a read that fails brings none.
 fn fill(mut input: Stdin, block: &mut [u8], used: usize) -> Reading
-    ensures result { result ≡ refilled used result.until result.failed }
+    ensures result { result ≡ refilled used result.until (has_failed result.end) }
     ensures block { result.until ≤ length block.old }
-    ensures failed { result.failed ≡ true → result.until ≡ 0 }
+    ensures failed { has_failed result.end ≡ true → result.until ≡ 0 }
 {
-    match input.read(block) {
-        Ok(n) => Reading {
-            used,
-            ended: false,
-            more: 0 < n,
-            failed: false,
-            from: 0,
-            until: n,
-        },
-        Err(_) => Reading {
-            used,
-            ended: false,
-            more: false,
-            failed: true,
-            from: 0,
-            until: 0,
-        },
+    let (end, until) = match input.read(block) {
+        Ok(0) => (Some(End::Input), 0),
+        Ok(n) => (None, n),
+        Err(_) => (Some(End::Failure), 0),
+    };
+    Reading {
+        used,
+        end,
+        from: 0,
+        until,
     }
 }
 
@@ -60,9 +96,7 @@ fn read_on(input: Stdin, block: &mut [u8], line: &mut [u8], s: Reading) -> Readi
     let g = lines::gather(&block[..until], s.from, line, s.used);
     Reading {
         used: g.used,
-        ended: g.ended,
-        more: true,
-        failed: false,
+        end: g.ended.then_some(End::LineFeed),
         from: g.next,
         until,
     }
@@ -84,14 +118,12 @@ pub fn next_line(
     let stop = until.min(block.len());
     let mut s = Reading {
         used: 0,
-        ended: false,
-        more: true,
-        failed: false,
+        end: None,
         from,
         until: stop,
     };
     for _turn in 0..u64::MAX {
-        if s.ended || !s.more {
+        if s.end.is_some() {
             return s;
         }
         s = read_on(input, block, line, s);
@@ -127,13 +159,6 @@ pub fn print(mut output: Stdout, text: &[u8], n: usize) -> bool
 pub struct Waiting {
     pub bytes: usize,
     pub written: bool,
-}
-
-// Whether a line was read, and not the input's end or a failure. An empty line without a line feed is none.
-pub fn is_line(failed: bool, ended: bool, used: usize) -> bool
-    ensures { result ≡ is_line failed ended used }
-{
-    !failed && (ended || 0 < used)
 }
 
 fn has_room(size: usize, waiting: usize, room: usize) -> bool

@@ -14,10 +14,6 @@ unfoldable pub first_live : List Live → PeerId → Option ConnectionId
 first_live [] p = None
 first_live (l ∷ ls) p = pick (is_peer l p) (Some l.connection) (first_live ls p)
 
--- what a list answers past its end
-abbrev pub no_live : Live
-no_live = record { peer = record { 0 = 0 }; connection = record { 0 = 0 } }
-
 abbrev pub no_peer : PeerId
 no_peer = record { 0 = 0 }
 

@@ -21,22 +21,12 @@ pub struct Live {
     pub connection: ConnectionId,
 }
 
-fn is_peer(l: Live, peer: PeerId) -> bool
-    ensures { result ≡ is_peer l peer }
-{
-    l.peer.0 == peer.0
-}
-
 // The connection of the first record that has the peer.
 pub fn first_live(live: &[Live], peer: PeerId) -> Option<ConnectionId>
     ensures { result ≡ first_live live.now peer }
 {
-    for l in live {
-        if is_peer(*l, peer) {
-            return Some(l.connection);
-        }
-    }
-    None
+    let first = live.iter().find(|l| l.peer == peer)?;
+    Some(first.connection)
 }
 
 // The peers to ask for, one for each row.

@@ -1,13 +1,15 @@
 -- What is left to store of the addresses of a message.
 -- Assumes nothing.
 use mathlib.Core.Path.{◌≡◌, refl, sym, ap, subst, ◌∙◌}
+use mathlib.Core.Logic.{◌⊎◌, ⊎_elim}
 use mathlib.Core.List.{List, []}
 use mathlib.Core.Bool.{Bool, true, false}
-use Prim.Native.Nat.{ℕ, ◌+◌, ◌-◌, ◌<◌, ◌≤◌}
+use Prim.Native.Nat.{ℕ, zero, suc, ◌+◌, ◌-◌, ◌<◌, ◌≤◌}
 use native.Mathlib.Omega.{arith}
 use lib.Dec.{eqb}
 use lib.ListN.{length, take, drop}
 use lib.Seq.{sets}
+use Rattle.std.specs.Prelude.{None, Option, Some}
 use Rattle.prelude.specs.Choice.{pick}
 use Rattle.refusal.specs.declared.Refusal.TheVariants.{NoType}
 use Rattle.wire.specs.Lists.{entry, listed}
@@ -48,29 +50,45 @@ left_ended k o p last = go (eqb k 0)
 pub left_end : (s : List ℕ) (n k : ℕ) (o : List ℕ) (p : ℕ) (last : List ℕ) → length s ≡ 0 → Left (scan n k s) o p last → o ≡ last
 left_end s n k o p last h left = left_ended k o p last (subst (λ (x : Content). Left x o p last) (sc.scan_end s n k h) left)
 
-module _ (s : List ℕ) {r : Field} (e : r ≡ field_of s) (n k : ℕ) (fuel : length s ≤ n) (h : length s ≡ 0 → ⊥)
+module _ (s : List ℕ) {r : Option Field} (e : r ≡ field_of s) (n k : ℕ) (fuel : length s ≤ n)
     (o : List ℕ) (p : ℕ) (last : List ℕ) (left : Left (scan n k s) o p last) where
   by : {x : Content} → scan n k s ≡ x → Left x o p last
   by q = subst (λ (y : Content). Left y o p last) q left
 
-  pub left_malformed : r ≡ f.Malformed → ⊥
-  left_malformed d = false_true (by (sc.malformed s e n k fuel h d)).0
+  -- where no field follows, nothing is left of an accepted message
+  pub left_none : r ≡ None → length s ≡ 0
+  left_none d = go (length s) refl
+    where
+      go : (l : ℕ) → length s ≡ l → length s ≡ 0
+      go zero g = g
+      go (suc m) g = absurd (false_true (by (sc.malformed s e n k fuel d (omega arith))).0)
 
-  pub left_typed : {v z : ℕ} → r ≡ f.Typed v z → Left (scan (n - 1) v (drop z s)) o p last
+  pub left_typed : {v z : ℕ} → r ≡ Some (f.Typed v z) → Left (scan (n - 1) v (drop z s)) o p last
   left_typed {v} {z} d = go (known v) refl
     where
       go : (t : Bool) → known v ≡ t → Left (scan (n - 1) v (drop z s)) o p last
-      go true g = by (sc.typed s e n k fuel h d g)
-      go false g = absurd (false_true (by (sc.wrong s e n k fuel h d g)).0)
+      go true g = by (sc.typed s e n k fuel d g)
+      go false g = absurd (false_true (by (sc.wrong s e n k fuel d g)).0)
 
-  pub left_other : {z : ℕ} → r ≡ f.Other z → Left (scan (n - 1) k (drop z s)) o p last
-  left_other d = by (sc.other s e n k fuel h d)
+  pub left_other : {z : ℕ} → r ≡ Some (f.Other z) → Left (scan (n - 1) k (drop z s)) o p last
+  left_other d = by (sc.other s e n k fuel d)
+
+  -- a field that is no address is passed, within what is there; under the type k' that was met last
+  pub moved : {x : Field} {z : ℕ} → r ≡ Some x → ((v : ℕ) × (x ≡ f.Typed v z)) ⊎ (x ≡ f.Other z)
+      → (k' : ℕ) × ((0 < z) × (z ≤ length s)) × Left (scan (n - 1) k' (drop z s)) o p last
+  moved {x} {z} d = ⊎_elim typed other
+    where
+      typed : (v : ℕ) × (x ≡ f.Typed v z) → (k' : ℕ) × ((0 < z) × (z ≤ length s)) × Left (scan (n - 1) k' (drop z s)) o p last
+      typed t = let g = d ∙ ap Some t.1 in (t.0, sc.typed_within s e g, left_typed g)
+
+      other : x ≡ f.Other z → (k' : ℕ) × ((0 < z) × (z ≤ length s)) × Left (scan (n - 1) k' (drop z s)) o p last
+      other t = let g = d ∙ ap Some t in (k, sc.other_within s e g, left_other g)
 
   -- the address as the code lends it
-  pub left_entry : {b l : ℕ} {x : List ℕ} → r ≡ f.Address b l → x ≡ sets o p (entry (take (b + l - b) (drop b s)))
+  pub left_entry : {b l : ℕ} {x : List ℕ} → r ≡ Some (f.Address b l) → x ≡ sets o p (entry (take (b + l - b) (drop b s)))
       → Left (scan (n - 1) k (drop (b + l) s)) x (p + (2 + l)) last
   left_entry {b} {l} d m =
       let g : length (take l (drop b s)) ≡ l = sc.address_long s e d in
       rw (m, part_is s b l)
       (subst (λ (i : ℕ). Left (scan (n - 1) k (drop (b + l) s)) (sets o p (entry (take l (drop b s)))) (p + (2 + i)) last) g
-      (left_also (take l (drop b s)) (scan (n - 1) k (drop (b + l) s)) o p last (by (sc.address s e n k fuel h d))))
+      (left_also (take l (drop b s)) (scan (n - 1) k (drop (b + l) s)) o p last (by (sc.address s e n k fuel d))))

@@ -10,6 +10,8 @@ use lib.ListN.{length, length-append}
 use lib.Seq.{sets}
 use borrow.Author.Tests.{lt-ltb, le-ltb, ltb-false}
 use Rattle.std.specs.Prelude.{Err, Ok, Result, ℕ}
+use Rattle.std.specs.Result.{IsErrAnd}
+use Rattle.std.proofs.lemmas.Result.{err_from_is_err_and}
 use Rattle.prelude.specs.Choice.{pick}
 use Rattle.refusal.specs.declared.Refusal.{Refusal}
 use Rattle.refusal.specs.declared.Refusal.TheVariants.{BrokenList, MessageTooLong, OutputTooShort}
@@ -17,26 +19,34 @@ use Rattle.wire.specs.Varint.{encoded}
 use Rattle.wire.specs.Frame.{max_message_size, framed}
 use Rattle.wire.specs.Lists.{listed, broken}
 use Rattle.wire.proofs.Stores.{sets_front, parts_stored}
-use Rattle.message.specs.Message.{Content, says, refused, accepted, addresses, content_of, measured, kind_of, type_number, with_room, over, answered, filled, decode_of, decode_into}
+use Rattle.message.specs.Message.{Content, says, refused, accepted, addresses, content_of, kind_of, type_number, with_room, over, answered, filled, decode_of, decode_into}
 use Rattle.message.specs.Encoding.{type_field, address_fields, message_bytes, sent, sent_into}
 use Rattle.message.specs.declared.Kind.{Kind}
+use Rattle.message.specs.declared.Kind.TheVariants.{Connect}
 use Rattle.message.proofs.Scan.{list_long}
+
+-- what `?` passes on is the error itself: std's `From` of a type for itself is the identity
+pub passed : {T E : Type 0} {r : Result T E} {e : E} → IsErrAnd r (λ y. y ≡ e) → r ≡ Err e
+passed {T} {E} {r} i = let p = err_from_is_err_and r i in p.1 ∙ ap Err p.2
 
 -- ---- reading
 
-abbrev pair_of : Result (ℕ × ℕ) Refusal → ℕ × ℕ
+abbrev pair_of : Result (Kind × ℕ) Refusal → Kind × ℕ
 pair_of (Ok p) = p
-pair_of (Err why) = (0, 0)
+pair_of (Err why) = (Connect, 0)
 
--- what was measured says what the message is
-good_is : (x : Content) (k n : ℕ) → Ok (k, n) ≡ measured x → (x ≡ says k (addresses x)) × (n ≡ length (listed (addresses x)))
-good_is (says j l) k n e =
-    let p : (k, n) ≡ (j, length (listed l)) = ap pair_of e in
-    let c : j ≡ k = sym (ap (λ (q : ℕ × ℕ). q.0) p) in
-    (rw c, ap (λ (q : ℕ × ℕ). q.1) p)
-good_is (refused v) k n e = let c : ◌≡◌ {A = ℕ} 0 1 = cc in absurd (omega arith)
+-- what was measured says what is answered
+good_is : (x : Content) (o : List ℕ) {k : Kind} {n : ℕ} → Ok (k, n) ≡ with_room x
+    → (accepted x ≡ true) × (n ≡ length (listed (addresses x)))
+    × (answered (length o) x ≡ pick (ltb (length o) n) (Err OutputTooShort) (Ok (k, n))) × (filled o x ≡ pick (ltb (length o) n) o (over (listed (addresses x)) o))
+good_is (says j l) o {k} {n} e =
+    let p : (k, n) ≡ (kind_of j, length (listed l)) = ap pair_of e in
+    let c : kind_of j ≡ k = sym (ap (λ (q : Kind × ℕ). q.0) p) in
+    let d : n ≡ length (listed l) = ap (λ (q : Kind × ℕ). q.1) p in
+    (refl, d, rw (c, d), rw d)
+good_is (refused v) o e = let c : ◌≡◌ {A = ℕ} 0 1 = cc in absurd (omega arith)
 
-refused_is : (x : Content) (v : Refusal) → Err v ≡ measured x → x ≡ refused v
+refused_is : (x : Content) (v : Refusal) → Err v ≡ with_room x → x ≡ refused v
 refused_is (says j l) v e = let c : ◌≡◌ {A = ℕ} 0 1 = cc in absurd (omega arith)
 refused_is (refused u) v e = cc
 
@@ -45,38 +55,31 @@ module _ (s o : List ℕ) where
   unfolding decode_of decode_into
   read_long h = (rw (lt-ltb max_message_size (length s) h), rw (lt-ltb max_message_size (length s) h))
 
-  module _ (h : length s ≤ max_message_size) {r : Result (ℕ × ℕ) Refusal} (e : r ≡ measured (content_of s)) where
+  module _ (h : length s ≤ max_message_size) {r : Result (Kind × ℕ) Refusal} (e : r ≡ with_room (content_of s)) where
     pub read_refused : {v : Refusal} → r ≡ Err v → (Err v ≡ decode_of s (length o)) × (o ≡ decode_into s o)
     unfolding decode_of decode_into
     read_refused {v} g =
         let x : content_of s ≡ refused v = refused_is (content_of s) v (sym g ∙ e) in
         (rw (le-ltb max_message_size (length s) h, x), rw (le-ltb max_message_size (length s) h, x))
 
-    module _ {k n : ℕ} (g : r ≡ Ok (k, n)) where
-      the_message : (content_of s ≡ says k (addresses (content_of s))) × (n ≡ length (listed (addresses (content_of s))))
-      the_message = good_is (content_of s) k n (sym g ∙ e)
-
+    module _ {k : Kind} {n : ℕ} (g : r ≡ Ok (k, n)) where
       pub read_good : accepted (content_of s) ≡ true
-      read_good = ap accepted the_message.0
+      read_good = (good_is (content_of s) o (sym g ∙ e)).0
 
       pub read_short : length o < n → (Err OutputTooShort ≡ decode_of s (length o)) × (o ≡ decode_into s o)
       unfolding decode_of decode_into
       read_short l =
-          let c : length o < length (listed (addresses (content_of s))) = omega (arith, the_message.1) in
-          let t : ltb (length o) (length (listed (addresses (content_of s)))) ≡ true = lt-ltb (length o) (length (listed (addresses (content_of s)))) c in (
-            sym (rw (le-ltb max_message_size (length s) h) (ap (answered (length o)) the_message.0 ∙ rw t)),
-            sym (rw (le-ltb max_message_size (length s) h) (ap (filled o) the_message.0 ∙ rw t)),
-          )
+          let p = good_is (content_of s) o (sym g ∙ e) in
+          let t = lt-ltb (length o) n l in
+          (rw (le-ltb max_message_size (length s) h, p.2, t), rw (le-ltb max_message_size (length s) h, p.3, t))
 
-      pub read_done : n ≤ length o → {q : Kind} → q ≡ kind_of k → {x : List ℕ} → x ≡ sets o 0 (listed (addresses (content_of s)))
-          → (Ok (q, n) ≡ decode_of s (length o)) × (x ≡ decode_into s o)
+      pub read_done : n ≤ length o → {x : List ℕ} → x ≡ sets o 0 (listed (addresses (content_of s))) → (Ok (k, n) ≡ decode_of s (length o)) × (x ≡ decode_into s o)
       unfolding decode_of decode_into
-      read_done l {q} a {x} b =
-          let c : length (listed (addresses (content_of s))) ≤ length o = omega (arith, the_message.1) in
-          let t : ltb (length o) (length (listed (addresses (content_of s)))) ≡ false = le-ltb (length o) (length (listed (addresses (content_of s)))) c in (
-            sym (rw (le-ltb max_message_size (length s) h) (ap (answered (length o)) the_message.0 ∙ rw (t, a, the_message.1))),
-            b ∙ sets_front o (listed (addresses (content_of s))) c ∙ sym (rw (le-ltb max_message_size (length s) h) (ap (filled o) the_message.0 ∙ rw t)),
-          )
+      read_done l {x} b =
+          let p = good_is (content_of s) o (sym g ∙ e) in
+          let c : length (listed (addresses (content_of s))) ≤ length o = omega (arith, p.1) in
+          let t = le-ltb (length o) n l in
+          (rw (le-ltb max_message_size (length s) h, p.2, t), b ∙ sets_front o (listed (addresses (content_of s))) c ∙ sym (rw (le-ltb max_message_size (length s) h, p.3, t)))
 
 -- a room as long as the message is enough
 pub room_enough : (s : List ℕ) (room : ℕ) → length s ≤ max_message_size → length s ≤ room → decode_of s room ≡ with_room (content_of s)

@@ -1,6 +1,6 @@
 -- The fields of a list's addresses: how many bytes they have, and what is left to store of them.
 -- Assumes nothing.
-use mathlib.Core.Path.{◌≡◌, refl, sym, ap, ◌∙◌}
+use mathlib.Core.Path.{◌≡◌, sym, ap, ◌∙◌}
 use mathlib.Core.List.{List, [], ◌∷◌, ◌++◌}
 use Prim.Native.Nat.{ℕ, ◌+◌, ◌*◌, ◌≤◌}
 use native.Mathlib.Numerals.{add-one}
@@ -55,9 +55,6 @@ count_all size total w h = omega (arith, h, ap (λ (xs : List (List ℕ)). lengt
 pub record Storing (left : List (List ℕ)) (o : List ℕ) (p : ℕ) (last : List ℕ) (size : ℕ) : Type 0 where
   pub gives : sets o p (address_fields left) ≡ last
   pub sum : p + length (address_fields left) ≡ size
-
-pub store_none : (all : List (List ℕ)) (o : List ℕ) (p : ℕ) → Storing all o p (sets o p (address_fields all)) (p + length (address_fields all))
-store_none all o p = record { gives = refl; sum = refl }
 
 module _ {left others : List (List ℕ)} {a : List ℕ} {o : List ℕ} {p : ℕ} {last : List ℕ} {size : ℕ} (w : left ≡ a ∷ others) (h : Storing left o p last size) where
   room : p + length (address_field a) + length (address_fields others) ≡ size

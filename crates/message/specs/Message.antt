@@ -1,5 +1,5 @@
 -- Messages read (RULES.md, section 3).
-use Rattle.std.specs.Prelude.{ℕ, zero, suc, ◌+◌, List, [], ◌∷◌, ◌++◌, Bool, true, false, length, take, drop, ltb, eqb, Err, Ok, Result}
+use Rattle.std.specs.Prelude.{◌≡◌, ℕ, zero, suc, ◌+◌, List, [], ◌∷◌, ◌++◌, Bool, true, false, length, take, drop, ltb, eqb, Err, None, Ok, Option, Result, Some}
 use Rattle.prelude.specs.Choice.{pick, either}
 use Rattle.refusal.specs.declared.Refusal.{Refusal}
 use Rattle.refusal.specs.declared.Refusal.TheVariants.{MessageTooLong, OutputTooShort, Malformed, NoType, WrongType}
@@ -22,6 +22,13 @@ known v = either (eqb v (type_number Connect)) (eqb v (type_number Sync))
 abbrev pub kind_of : ℕ → Kind
 kind_of v = pick (eqb v (type_number Connect)) Connect Sync
 
+-- the type with a number
+abbrev pub kind_read : ℕ → Result Kind Refusal
+kind_read v = pick (known v) (Ok (kind_of v)) (Err WrongType)
+
+abbrev pub Numbers : ℕ → Result Kind Refusal → Type 0
+Numbers v r = r ≡ kind_read v
+
 -- what a message says: the number of its type, and its addresses; or why it is refused
 pub data Content : Type 0 where
   says : ℕ → List (List ℕ) → Content
@@ -36,12 +43,12 @@ also a (refused w) = refused w
 abbrev pub ended : ℕ → Content
 ended k = pick (eqb k 0) (refused NoType) (says k [])
 
--- a field, and what follows it: a wrong type is refused where it is met
-abbrev pub step : (ℕ → List ℕ → Content) → ℕ → List ℕ → Field → Content
-step next k s (f.Typed v n) = pick (known v) (next v (drop n s)) (refused WrongType)
-step next k s (f.Address b n) = also (take n (drop b s)) (next k (drop (b + n) s))
-step next k s (f.Other n) = next k (drop n s)
-step next k s f.Malformed = refused Malformed
+-- a field, and what follows it: a wrong type is refused where it is met, and so is a malformed field
+abbrev pub step : (ℕ → List ℕ → Content) → ℕ → List ℕ → Option Field → Content
+step next k s (Some (f.Typed v n)) = pick (known v) (next v (drop n s)) (refused WrongType)
+step next k s (Some (f.Address b n)) = also (take n (drop b s)) (next k (drop (b + n) s))
+step next k s (Some (f.Other n)) = next k (drop n s)
+step next k s None = refused Malformed
 
 -- field after field, at most n of them, where the type k was met last
 unfoldable pub scan : ℕ → ℕ → List ℕ → Content
@@ -60,16 +67,11 @@ abbrev pub addresses : Content → List (List ℕ)
 addresses (says k xs) = xs
 addresses (refused w) = []
 
--- the type, and how long the list of addresses is
-abbrev pub measured : Content → Result (ℕ × ℕ) Refusal
-measured (says k xs) = Ok (k, length (listed xs))
-measured (refused w) = Err w
-
 -- bytes from the front of a buffer on; its other bytes stay
 abbrev pub over : List ℕ → List ℕ → List ℕ
 over new out = new ++ drop (length new) out
 
--- the answer, where there is room enough for the list of addresses
+-- the type, and how long the list of addresses is: the answer, where there is room enough for the list
 abbrev pub with_room : Content → Result (Kind × ℕ) Refusal
 with_room (says k xs) = Ok (kind_of k, length (listed xs))
 with_room (refused w) = Err w

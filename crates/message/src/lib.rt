@@ -6,55 +6,49 @@ ghost use Rattle.std.proofs.lemmas.List.Edits.{sets};
 ghost use Rattle.wire.specs.Varint.{encoded};
 ghost use Rattle.wire.specs.Frame.{max_message_size};
 ghost use Rattle.wire.specs.Lists.{entries, listed};
-ghost use Rattle.message.specs.Message.{type_number, known, kind_of, content_of, accepted, addresses, measured, decode_of, decode_into};
+ghost use Rattle.message.specs.Message.{type_number, Numbers, content_of, accepted, addresses, with_room, decode_of, decode_into};
 ghost use Rattle.message.specs.Encoding.{type_field, address_field, address_fields, encode_of, encode_into, frame_encode_of, frame_encode_into};
 
 use protobuf::Field;
 use refusal::Refusal;
 use wire::MAX_MESSAGE_SIZE;
 
-// The type of a message: CONNECT is 100, SYNC is 300.
+// The type of a message, with its number.
 #[derive(Clone, Copy)]
 pub enum Kind {
-    Connect,
-    Sync,
+    Connect = 100,
+    Sync = 300,
+}
+
+impl TryFrom<u64> for Kind {
+    type Error = Refusal;
+
+    ghost try_from_gives = { Numbers };
+
+    fn try_from(number: u64) -> Result<Kind, Refusal> {
+        match number {
+            100 => Ok(Kind::Connect),
+            300 => Ok(Kind::Sync),
+            _ => Err(Refusal::WrongType),
+        }
+    }
 }
 
 // ---- Reading
 
-fn is_known(value: u64) -> bool
-    ensures { result ≡ known value }
-{
-    matches!(value, 100 | 300)
-}
-
-fn kind_of(number: u64) -> Kind
-    ensures { result ≡ kind_of number }
-{
-    if number == 100 {
-        Kind::Connect
-    } else {
-        Kind::Sync
-    }
-}
-
 // The type, and how long the list of addresses is; or why the message is refused.
 #[tactic(auto, using(crate::proofs::Scan::typed_within, crate::proofs::Scan::address_within, crate::proofs::Scan::other_within))]
-fn measure(s: &[u8]) -> Result<(u64, usize), Refusal>
-    ensures { result ≡ measured (content_of s.now) }
+fn measure(s: &[u8]) -> Result<(Kind, usize), Refusal>
+    ensures { result ≡ with_room (content_of s.now) }
 {
     // A while: a field says how long it is only when it is read.
     let mut rest = s;
-    let mut kind: u64 = 0;
+    let mut kind = None;
     let mut size: usize = 0;
-    while !rest.is_empty() {
-        match protobuf::first_field(rest) {
-            Field::Malformed => return Err(Refusal::Malformed),
+    while let Some(field) = protobuf::first_field(rest) {
+        match field {
             Field::Typed { value, size: n } => {
-                if !is_known(value) {
-                    return Err(Refusal::WrongType);
-                }
-                kind = value;
+                kind = Some(Kind::try_from(value)?);
                 rest = &rest[n..];
             }
             Field::Address { start, len } => {
@@ -64,10 +58,10 @@ fn measure(s: &[u8]) -> Result<(u64, usize), Refusal>
             Field::Other { size: n } => rest = &rest[n..],
         }
     }
-    if kind == 0 {
-        return Err(Refusal::NoType);
+    if !rest.is_empty() {
+        return Err(Refusal::Malformed);
     }
-    Ok((kind, size))
+    Ok((kind.ok_or(Refusal::NoType)?, size))
 }
 
 // The addresses of an accepted message, as a list.
@@ -79,16 +73,14 @@ fn put_addresses(s: &[u8], out: &mut [u8])
     // A while, as in measure.
     let mut rest = s;
     let mut p: usize = 0;
-    while !rest.is_empty() {
-        match protobuf::first_field(rest) {
-            Field::Malformed => return,
-            Field::Typed { value: _, size } => rest = &rest[size..],
+    while let Some(field) = protobuf::first_field(rest) {
+        match field {
             Field::Address { start, len } => {
                 wire::put_entry(&rest[start..start + len], out, p);
                 p += 2 + len;
                 rest = &rest[start + len..];
             }
-            Field::Other { size } => rest = &rest[size..],
+            Field::Typed { size, .. } | Field::Other { size } => rest = &rest[size..],
         }
     }
 }
@@ -101,16 +93,12 @@ pub fn decode(message: &[u8], out: &mut [u8]) -> Result<(Kind, usize), Refusal>
     if MAX_MESSAGE_SIZE < message.len() {
         return Err(Refusal::MessageTooLong);
     }
-    match measure(message) {
-        Err(why) => Err(why),
-        Ok((kind, size)) => {
-            if out.len() < size {
-                return Err(Refusal::OutputTooShort);
-            }
-            put_addresses(message, out);
-            Ok((kind_of(kind), size))
-        }
+    let (kind, size) = measure(message)?;
+    if out.len() < size {
+        return Err(Refusal::OutputTooShort);
     }
+    put_addresses(message, out);
+    Ok((kind, size))
 }
 
 // ---- Writing
@@ -118,10 +106,7 @@ pub fn decode(message: &[u8], out: &mut [u8]) -> Result<(Kind, usize), Refusal>
 fn type_number(kind: Kind) -> u64
     ensures { result ≡ type_number kind }
 {
-    match kind {
-        Kind::Connect => 100,
-        Kind::Sync => 300,
-    }
+    kind as u64
 }
 
 // How many bytes an address takes as a field.
@@ -205,17 +190,13 @@ pub fn encode(kind: Kind, list: &[u8], out: &mut [u8]) -> Result<usize, Refusal>
     ensures answer { result ≡ encode_of kind list.now (length out.old) }
     ensures stored { out.new ≡ encode_into kind list.now out.old }
 {
-    match message_size(kind, list) {
-        Err(why) => Err(why),
-        Ok(size) => {
-            if out.len() < size {
-                return Err(Refusal::OutputTooShort);
-            }
-            let number = type_number(kind);
-            put_message(number, list, out, 0);
-            Ok(size)
-        }
+    let size = message_size(kind, list)?;
+    if out.len() < size {
+        return Err(Refusal::OutputTooShort);
     }
+    let number = type_number(kind);
+    put_message(number, list, out, 0);
+    Ok(size)
 }
 
 // Writes the message behind its length, as it goes out on a stream.
@@ -223,17 +204,13 @@ pub fn encode_frame(kind: Kind, list: &[u8], out: &mut [u8]) -> Result<usize, Re
     ensures answer { result ≡ frame_encode_of kind list.now (length out.old) }
     ensures stored { out.new ≡ frame_encode_into kind list.now out.old }
 {
-    match message_size(kind, list) {
-        Err(why) => Err(why),
-        Ok(size) => {
-            let head = wire::varint_len(size as u64);
-            if out.len() < head + size {
-                return Err(Refusal::OutputTooShort);
-            }
-            wire::put_varint(size as u64, out, 0);
-            let number = type_number(kind);
-            put_message(number, list, out, head);
-            Ok(head + size)
-        }
+    let size = message_size(kind, list)?;
+    let head = wire::varint_len(size as u64);
+    if out.len() < head + size {
+        return Err(Refusal::OutputTooShort);
     }
+    wire::put_varint(size as u64, out, 0);
+    let number = type_number(kind);
+    put_message(number, list, out, head);
+    Ok(head + size)
 }

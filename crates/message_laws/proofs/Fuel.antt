@@ -6,6 +6,7 @@ use Prim.Native.Nat.{ℕ, zero, suc, ◌+◌, ◌<◌, ◌≤◌}
 use native.Mathlib.Omega.{arith}
 use lib.Dec.{eqb-suc-zero}
 use lib.ListN.{length, take, drop, length-drop}
+use Rattle.std.specs.Prelude.{None, Option, Some}
 use Rattle.prelude.specs.Choice.{pick}
 use Rattle.refusal.specs.declared.Refusal.TheVariants.{WrongType}
 use Rattle.protobuf.specs.Fields.{field_of}
@@ -14,12 +15,12 @@ use Rattle.protobuf.specs.declared.Field.{Field}
 use Rattle.protobuf.specs.declared.Field.TheVariants as f
 use Rattle.message.proofs.Scan.{Within, field_within, scan_nil}
 
-step_same : (go go' : ℕ → List ℕ → Content) (k : ℕ) (s : List ℕ) → 0 < length s → (x : Field) → Within (length s) x
+step_same : (go go' : ℕ → List ℕ → Content) (k : ℕ) (s : List ℕ) → 0 < length s → (x : Option Field) → Within (length s) x
     → ((j : ℕ) (t : List ℕ) → length t < length s → go j t ≡ go' j t) → step go k s x ≡ step go' k s x
-step_same go go' k s p (f.Typed v z) h q = ap (λ (y : Content). pick (known v) y (refused WrongType)) (q v (drop z s) (omega (arith, length-drop z s)))
-step_same go go' k s p (f.Address b l) h q = ap (also (take l (drop b s))) (q k (drop (b + l) s) (omega (arith, length-drop (b + l) s)))
-step_same go go' k s p (f.Other z) h q = q k (drop z s) (omega (arith, length-drop z s))
-step_same go go' k s p f.Malformed h q = refl
+step_same go go' k s p (Some (f.Typed v z)) h q = ap (λ (y : Content). pick (known v) y (refused WrongType)) (q v (drop z s) (omega (arith, length-drop z s)))
+step_same go go' k s p (Some (f.Address b l)) h q = ap (also (take l (drop b s))) (q k (drop (b + l) s) (omega (arith, length-drop (b + l) s)))
+step_same go go' k s p (Some (f.Other z)) h q = q k (drop z s) (omega (arith, length-drop z s))
+step_same go go' k s p None h q = refl
 
 pub enough : (n m k : ℕ) (s : List ℕ) → length s ≤ n → length s ≤ m → scan n k s ≡ scan m k s
 unfolding scan

@@ -9,7 +9,7 @@ use lib.Dec.{eqb-suc-zero}
 use lib.ListN.{length, get_or, take, drop, length-append}
 use lib.Seq.{drop_at, take-append_seam}
 use borrow.Author.Tests.{le-leb, le-ltb, ne_eqb}
-use Rattle.std.specs.Prelude.{Ok}
+use Rattle.std.specs.Prelude.{Ok, Some}
 use Rattle.wire.specs.Varint.{value_of, span_of, varint_of, encoded}
 use Rattle.wire.specs.Frame.{max_message_size}
 use Rattle.wire.specs.Lists.{entries, broken, listed}
@@ -32,7 +32,7 @@ tag_two : (s : List ℕ) → field_of (0x12 ∷ s) ≡ bytes_field 2 1 s (varint
 unfolding field_of varint_of span_of value_of
 tag_two s = refl
 
-address_again : (a rest : List ℕ) → length a < 2 ^ 64 → field_of (address_field a ++ rest) ≡ f.Address (1 + length (encoded (length a))) (length a)
+address_again : (a rest : List ℕ) → length a < 2 ^ 64 → field_of (address_field a ++ rest) ≡ Some (f.Address (1 + length (encoded (length a))) (length a))
 address_again a rest h =
     let q : (encoded (length a) ++ a) ++ rest ≡ encoded (length a) ++ (a ++ rest) = append_assoc (encoded (length a)) a rest in
     let l : length (encoded (length a)) + length a ≤ length (encoded (length a) ++ (a ++ rest)) = omega (arith, length-append (encoded (length a)) (a ++ rest), length-append a rest) in
@@ -43,7 +43,7 @@ tag_one : (s : List ℕ) → field_of (0x08 ∷ s) ≡ varint_field 1 1 (varint_
 unfolding field_of varint_of span_of value_of
 tag_one s = refl
 
-type_again : (v : ℕ) (rest : List ℕ) → v < 2 ^ 64 → field_of (0x08 ∷ (encoded v ++ rest)) ≡ f.Typed v (1 + length (encoded v))
+type_again : (v : ℕ) (rest : List ℕ) → v < 2 ^ 64 → field_of (0x08 ∷ (encoded v ++ rest)) ≡ Some (f.Typed v (1 + length (encoded v)))
 type_again v rest h = tag_one (encoded v ++ rest) ∙ rw (read_written v rest h)
 
 -- ---- field after field

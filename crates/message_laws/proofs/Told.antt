@@ -26,11 +26,11 @@ use Rattle.protobuf.specs.declared.Field.TheVariants as f
 -- ---- one field
 
 -- a field that reading meets in s, against whether it is well formed, its size and what it says
-abbrev Meets : List ℕ → Bool → ℕ → Said → Field → Type 0
-Meets s good size x (f.Typed v n) = (good ≡ true) × (size ≡ n) × (x ≡ typed v)
-Meets s good size x (f.Address b l) = (good ≡ true) × (size ≡ b + l) × (x ≡ address (take l (drop b s)))
-Meets s good size x (f.Other n) = (good ≡ true) × (size ≡ n) × (x ≡ skipped)
-Meets s good size x f.Malformed = good ≡ false
+abbrev Meets : List ℕ → Bool → ℕ → Said → Option Field → Type 0
+Meets s good size x (Some (f.Typed v n)) = (good ≡ true) × (size ≡ n) × (x ≡ typed v)
+Meets s good size x (Some (f.Address b l)) = (good ≡ true) × (size ≡ b + l) × (x ≡ address (take l (drop b s)))
+Meets s good size x (Some (f.Other n)) = (good ≡ true) × (size ≡ n) × (x ≡ skipped)
+Meets s good size x None = good ≡ false
 
 -- the payload of size z ends within n bytes
 abbrev inside : ℕ → ℕ → Bool
@@ -59,7 +59,7 @@ module _ (s : List ℕ) (n t : ℕ) where
 
       go : (a b : Bool)
           → Meets s (inside k left) (t + k) (pick (both a true) (typed v) (pick (both b false) (address (take v (drop k (drop t s)))) skipped))
-          (pick a (f.Typed v (t + k)) (f.Other (t + k)))
+          (Some (pick a (f.Typed v (t + k)) (f.Other (t + k))))
       go true b = (ends, refl, refl)
       go false true = (ends, refl, refl)
       go false false = (ends, refl, refl)
@@ -69,7 +69,7 @@ module _ (s : List ℕ) (n t : ℕ) where
   fixed_meets : (z : ℕ) (x : Said) → x ≡ skipped → leb 1 z ≡ true → Meets s (inside z left) (t + z) x (fixed_field z t (drop t s))
   fixed_meets z x e h = rw h (go (leb z left))
     where
-      go : (a : Bool) → Meets s a (t + z) x (pick a (f.Other (t + z)) f.Malformed)
+      go : (a : Bool) → Meets s a (t + z) x (pick a (Some (f.Other (t + z))) None)
       go true = (refl, refl, e)
       go false = refl
 
@@ -81,7 +81,7 @@ module _ (s : List ℕ) (n t : ℕ) where
 
       go : (g a b : Bool)
           → Meets s g (t + (k + v)) (pick (both a false) (typed v) (pick (both b true) (address (take v (drop k (drop t s)))) skipped))
-          (pick g (pick b (f.Address (t + k) v) (f.Other (t + k + v))) f.Malformed)
+          (pick g (Some (pick b (f.Address (t + k) v) (f.Other (t + k + v)))) None)
       go true true true = (refl, omega arith, rw (drop-drop k t s))
       go true true false = (refl, omega arith, refl)
       go true false true = (refl, omega arith, rw (drop-drop k t s))
@@ -89,11 +89,11 @@ module _ (s : List ℕ) (n t : ℕ) where
       go false a b = refl
   bytes_meets None e = refl
 
-  abbrev payload_by : ℕ → Option (ℕ × ℕ) → Field
+  abbrev payload_by : ℕ → Option (ℕ × ℕ) → Option Field
   payload_by w r =
       pick (eqb w 0) (varint_field n t r)
       (pick (eqb w 1) (fixed_field 8 t (drop t s))
-      (pick (eqb w 2) (bytes_field n t (drop t s) r) (pick (eqb w 5) (fixed_field 4 t (drop t s)) f.Malformed)))
+      (pick (eqb w 2) (bytes_field n t (drop t s) r) (pick (eqb w 5) (fixed_field 4 t (drop t s)) None)))
 
   payload_meets : (w : ℕ) (r : Option (ℕ × ℕ)) → r ≡ varint_of (drop t s) → Meets s (inside (payload_size w r) left) (t + payload_size w r) (said_by n w r (drop t s)) (payload_by w r)
   payload_meets zero r e = varint_meets r e
@@ -125,7 +125,7 @@ tag_meets s (Some (v, t)) e = go (eqb (v / 8) 0) refl (ltb max_field (v / 8)) re
         (both (both (leb 1 (v / 8)) (leb (v / 8) 536_870_911)) (inside (payload_size (v % 8) q) (length (drop t s))))
         (t + payload_size (v % 8) q)
         (said_by (v / 8) (v % 8) q (drop t s))
-        (pick a f.Malformed (pick b f.Malformed (payload_of (v / 8) (v % 8) t (drop t s))))
+        (pick a None (pick b None (payload_of (v / 8) (v % 8) t (drop t s))))
     go true g b h = let z : v / 8 < 1 = omega (arith, eqb-true (v / 8) 0 g) in rw (lt-leb 1 (v / 8) z)
     go false g true h =
         let z : 1 ≤ v / 8 = omega (arith, eqb-false (v / 8) 0 g) in
@@ -150,13 +150,13 @@ told k (address a ∷ xs) = also a (told k xs)
 told k (skipped ∷ xs) = told k xs
 told k (malformed ∷ xs) = refused why.Malformed
 
-step_told : (n k : ℕ) (s : List ℕ) → ((j : ℕ) (u : List ℕ) → scan n j u ≡ told j (fields n u)) → (good : Bool) (size : ℕ) (x : Said) (y : Field) → Meets s good size x y
+step_told : (n k : ℕ) (s : List ℕ) → ((j : ℕ) (u : List ℕ) → scan n j u ≡ told j (fields n u)) → (good : Bool) (size : ℕ) (x : Said) (y : Option Field) → Meets s good size x y
     → step (scan n) k s y ≡ told k (pick good (x ∷ fields n (drop size s)) (malformed ∷ []))
 unfolding told
-step_told n k s next good size x (f.Typed v z) (g, h, e) = rw (g, e, h) (ap (λ (c : Content). pick (known v) c (refused why.WrongType)) (next v (drop z s)))
-step_told n k s next good size x (f.Address b l) (g, h, e) = rw (g, e, h) (ap (also (take l (drop b s))) (next k (drop (b + l) s)))
-step_told n k s next good size x (f.Other z) (g, h, e) = rw (g, e, h) (next k (drop z s))
-step_told n k s next good size x f.Malformed g = rw g
+step_told n k s next good size x (Some (f.Typed v z)) (g, h, e) = rw (g, e, h) (ap (λ (c : Content). pick (known v) c (refused why.WrongType)) (next v (drop z s)))
+step_told n k s next good size x (Some (f.Address b l)) (g, h, e) = rw (g, e, h) (ap (also (take l (drop b s))) (next k (drop (b + l) s)))
+step_told n k s next good size x (Some (f.Other z)) (g, h, e) = rw (g, e, h) (next k (drop z s))
+step_told n k s next good size x None g = rw g
 
 pub scan_told : (n k : ℕ) (s : List ℕ) → scan n k s ≡ told k (fields n s)
 unfolding scan fields told

@@ -25,8 +25,8 @@ use Rattle.rows.specs.Rows.{inserted, crowded}
 use Rattle.entries.specs.Entries.{dial_at}
 use Rattle.ledger.specs.Ledger.{PathLedger, Attributed, empty_ledger, dials_of, windows_of, paths_of, with_dials, with_paths, dial_row, path_row, full_or, dial_started, attributed, recorded, judged_by, refuses_punches}
 use Rattle.budget.specs.declared.UpgradeBudget.{UpgradeBudget}
-use Rattle.candidates.specs.declared.Chosen.{Chosen}
-use Rattle.frames.specs.declared.Framed.{Framed}
+use Rattle.candidates.specs.Selection.{Chosen}
+use Rattle.frames.specs.Sent.{Framed}
 use Rattle.vocabulary.specs.declared.Settings.{Settings}
 use Rattle.vocabulary.specs.declared.Host.{Host}
 use Rattle.vocabulary.specs.declared.StreamInput.{StreamInput}

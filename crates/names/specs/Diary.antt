@@ -10,7 +10,7 @@ use Rattle.refusal.specs.Number.{number_of}
 use Rattle.wire.specs.Lists.{broken, entries}
 use Rattle.path.specs.declared.Path.TheVariants.{Relayed}
 use Rattle.path.specs.declared.Owner.TheVariants.{Inbound}
-use Rattle.frames.specs.declared.Framed.{Framed}
+use Rattle.frames.specs.Sent.{Framed}
 use Rattle.ledger.specs.Ledger.{empty_ledger}
 use Rattle.vocabulary.specs.declared.Settings.{Settings}
 use Rattle.vocabulary.specs.declared.Host.{Host}

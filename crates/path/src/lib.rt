@@ -160,10 +160,13 @@ fn is_relayed(path: Path) -> bool
 pub fn is_punched(found: Option<Attribution>) -> bool
     ensures { result ≡ punched_at found }
 {
-    match found {
-        Some(a) => matches!(a.path, Path::Punched),
-        None => false,
-    }
+    matches!(
+        found,
+        Some(Attribution {
+            path: Path::Punched,
+            ..
+        })
+    )
 }
 
 // The upgrade, if any, where the new path takes the place of the old: an owned relayed path gives way to one that is not.
@@ -172,12 +175,10 @@ pub fn upgrade(old: Attribution, new: Option<Attribution>) -> Option<Replaced>
     ensures { result ≡ upgrade_of old new }
 {
     let new = new?;
-    if old.owner.is_some() && is_relayed(old.path) && !is_relayed(new.path) {
-        return Some(Replaced {
-            owner: old.owner,
-            from: old.path,
-            to: new.path,
-        });
-    }
-    None
+    let left = old.owner.is_some() && is_relayed(old.path) && !is_relayed(new.path);
+    left.then_some(Replaced {
+        owner: old.owner,
+        from: old.path,
+        to: new.path,
+    })
 }

@@ -10,31 +10,31 @@ abbrev pub max_field : ℕ
 max_field = 536_870_911
 
 -- field n, behind a tag of t bytes. Wire type 0: a varint, the type where n is 1
-abbrev pub varint_field : ℕ → ℕ → Option (ℕ × ℕ) → Field
-varint_field n t (Some (v, k)) = pick (eqb n 1) (f.Typed v (t + k)) (f.Other (t + k))
-varint_field n t None = f.Malformed
+abbrev pub varint_field : ℕ → ℕ → Option (ℕ × ℕ) → Option Field
+varint_field n t (Some (v, k)) = Some (pick (eqb n 1) (f.Typed v (t + k)) (f.Other (t + k)))
+varint_field n t None = None
 
 -- wire types 1 and 5: k bytes
-abbrev pub fixed_field : ℕ → ℕ → List ℕ → Field
-fixed_field k t s = pick (leb k (length s)) (f.Other (t + k)) f.Malformed
+abbrev pub fixed_field : ℕ → ℕ → List ℕ → Option Field
+fixed_field k t s = pick (leb k (length s)) (Some (f.Other (t + k))) None
 
 -- wire type 2: a length and so many bytes, an address where n is 2
-abbrev pub bytes_field : ℕ → ℕ → List ℕ → Option (ℕ × ℕ) → Field
-bytes_field n t s (Some (v, k)) = pick (leb (k + v) (length s)) (pick (eqb n 2) (f.Address (t + k) v) (f.Other (t + k + v))) f.Malformed
-bytes_field n t s None = f.Malformed
+abbrev pub bytes_field : ℕ → ℕ → List ℕ → Option (ℕ × ℕ) → Option Field
+bytes_field n t s (Some (v, k)) = pick (leb (k + v) (length s)) (Some (pick (eqb n 2) (f.Address (t + k) v) (f.Other (t + k + v)))) None
+bytes_field n t s None = None
 
 -- field n of wire type w; types 3, 4, 6 and 7 are malformed
-abbrev pub payload_of : ℕ → ℕ → ℕ → List ℕ → Field
+abbrev pub payload_of : ℕ → ℕ → ℕ → List ℕ → Option Field
 payload_of n w t s =
     pick (eqb w 0) (varint_field n t (varint_of s))
     (pick (eqb w 1) (fixed_field 8 t s)
-    (pick (eqb w 2) (bytes_field n t s (varint_of s)) (pick (eqb w 5) (fixed_field 4 t s) f.Malformed)))
+    (pick (eqb w 2) (bytes_field n t s (varint_of s)) (pick (eqb w 5) (fixed_field 4 t s) None)))
 
 -- a tag is a field number, 1 to max_field, times 8 and a wire type
-abbrev pub tagged : List ℕ → Option (ℕ × ℕ) → Field
-tagged s (Some (v, t)) = pick (eqb (v / 8) 0) f.Malformed (pick (ltb max_field (v / 8)) f.Malformed (payload_of (v / 8) (v % 8) t (drop t s)))
-tagged s None = f.Malformed
+abbrev pub tagged : List ℕ → Option (ℕ × ℕ) → Option Field
+tagged s (Some (v, t)) = pick (eqb (v / 8) 0) None (pick (ltb max_field (v / 8)) None (payload_of (v / 8) (v % 8) t (drop t s)))
+tagged s None = None
 
--- the field that stands first, with its size; of an address, where its bytes stand
-unfoldable pub field_of : List ℕ → Field
+-- the field that stands first, with its size, and of an address where its bytes stand; none where it is malformed
+unfoldable pub field_of : List ℕ → Option Field
 field_of s = tagged s (varint_of s)

@@ -37,13 +37,11 @@ pub fn promotes(c: Core, conn: ConnectionId) -> bool
 pub fn circuit_claim(c: Core, conn: ConnectionId) -> Option<Claim>
     ensures { result ≡ claim_of c conn }
 {
-    if conn == c.circuit && !is_done(c) {
-        return Some(Claim::Circuit {
-            relay: c.relay,
-            owner: Some(Owner::Inbound),
-        });
-    }
-    None
+    let claimed = conn == c.circuit && !is_done(c);
+    claimed.then_some(Claim::Circuit {
+        relay: c.relay,
+        owner: Some(Owner::Inbound),
+    })
 }
 
 pub fn next_deadline(c: Core) -> Option<u64>
@@ -59,7 +57,7 @@ pub fn next_deadline(c: Core) -> Option<u64>
             } else {
                 blast.next_deadline(until)
             };
-            Some(time::min(next, c.budget.next_deadline()))
+            Some(next.min(c.budget.next_deadline()))
         }
         Phase::Done { .. } => None,
     }

@@ -6,37 +6,24 @@ ghost use Rattle.refusal.specs.Number.{number_of};
 
 #[derive(Clone, Copy)]
 pub enum Refusal {
-    ReplyBufferTooShort,
-    OfferInUse,
-    HandshakeTooLate,
-    LedgerFull,
-    BrokenList,
-    MessageTooLong,
-    OutputTooShort,
-    Malformed,
-    NoType,
-    WrongType,
-    UnknownLine,
-    NotStarted,
+    ReplyBufferTooShort = 1,
+    OfferInUse = 2,
+    HandshakeTooLate = 3,
+    LedgerFull = 4,
+    BrokenList = 5,
+    MessageTooLong = 6,
+    OutputTooShort = 7,
+    Malformed = 8,
+    NoType = 9,
+    WrongType = 10,
+    UnknownLine = 11,
+    NotStarted = 12,
 }
 
 impl Refusal {
     pub fn number(self) -> u64
         ensures { result ≡ number_of self }
     {
-        match self {
-            Refusal::ReplyBufferTooShort => 1,
-            Refusal::OfferInUse => 2,
-            Refusal::HandshakeTooLate => 3,
-            Refusal::LedgerFull => 4,
-            Refusal::BrokenList => 5,
-            Refusal::MessageTooLong => 6,
-            Refusal::OutputTooShort => 7,
-            Refusal::Malformed => 8,
-            Refusal::NoType => 9,
-            Refusal::WrongType => 10,
-            Refusal::UnknownLine => 11,
-            Refusal::NotStarted => 12,
-        }
+        self as u64
     }
 }

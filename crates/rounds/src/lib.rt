@@ -38,10 +38,7 @@ fn open_stream(c: Core, budget: UpgradeBudget, host: Host, said: Said) -> Decisi
 fn is_live(circuit: ConnectionId, live: Option<ConnectionId>) -> bool
     ensures { result ≡ is_live circuit live }
 {
-    match live {
-        Some(conn) => conn == circuit,
-        None => false,
-    }
+    live == Some(circuit)
 }
 
 // Opens the next round, or ends the upgrade.

@@ -5,3 +5,4 @@ pub mod Tables
 pub mod Lasting
 pub mod Inserts
 pub mod Laws
+pub mod Arrays

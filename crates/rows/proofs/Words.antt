@@ -9,7 +9,15 @@ use lib.ListN.{length, get_or, take, drop, set, replicate, length-append, length
 use lib.Seq.{drop-cons, take-add, drop-drop, drop-append-le, drop-append-add, take_at, drop_at, get_or_at, get_or-drop, length-take-le, set_split, sets, sets-eq}
 use borrow.Rule.Slice.PartMut.{put_mid, mid_of}
 use Rattle.kinds.specs.declared.Row.{Row}
-use Rattle.rows.specs.Words.{at, first_row, rows_in, words_of, no_row, places_of, rows_from, tabled}
+use Rattle.rows.specs.Words.{at, first_row, rows_in, words_of, no_row, places_of, rows_from, tabled, start_of, ledger_words}
+use Rattle.rows.specs.declared.Table.{Table}
+use Rattle.rows.specs.declared.Table.TheVariants.{Dials, Windows, Paths}
+
+-- a table ends within the words
+pub table_end : (t : Table) → start_of t + 321 ≤ ledger_words
+table_end Dials = omega arith
+table_end Windows = omega arith
+table_end Paths = omega arith
 
 pub length_words_of : (rs : List Row) → length (words_of rs) ≡ 5 * length rs
 unfolding words_of

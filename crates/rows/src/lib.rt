@@ -11,6 +11,7 @@ ghost use Rattle.rows.specs.declared.Table.TheVariants.{Paths};
 ghost use Rattle.rows.specs.Words.{at, no_row, start_of, ledger_words, places_of, rows_from, rows_of, tabled, filled, brought, divided, count_word, laid_from, laid, entered};
 
 use kinds::{Entry, Row};
+use std::array;
 
 // How many rows a table has room for.
 pub const ROWS: usize = 64;
@@ -59,20 +60,15 @@ fn no_row() -> Row
     }
 }
 
+#[tactic(auto, using(crate::proofs::Lasting::lasts_is, crate::proofs::Lists::not_no))]
 fn keeps(keep: Keep, row: Row) -> bool
     ensures { result ≡ keeps_row keep row }
 {
-    let key = row.key;
     match keep {
-        Keep::Below(k) => key < k,
-        Keep::Above(k) => k < key,
-        Keep::Other(k) => key != k,
-        Keep::Lasting(now) => {
-            if row.kind == kinds::WINDOW {
-                return now < row.a;
-            }
-            true
-        }
+        Keep::Below(k) => row.key < k,
+        Keep::Above(k) => k < row.key,
+        Keep::Other(k) => row.key != k,
+        Keep::Lasting(now) => row.kind != kinds::WINDOW || now < row.a,
     }
 }
 
@@ -93,37 +89,36 @@ fn start_of(table: Table) -> usize
     }
 }
 
-fn count(l: &Ledger, b: usize) -> usize
-    requires { b ≤ start_of Paths }
-    ensures { (result ≡ length (rows_from b l.now)) × (result ≤ capacity) }
+// How many rows are in use.
+#[tactic(auto, using(crate::proofs::Words::used_is))]
+pub fn used(l: &Ledger, table: Table) -> usize
+    ensures { (result ≡ length (rows_of table l.now)) × (result ≤ capacity) }
 {
-    let n = l[b];
-    if n < ROWS as u64 {
-        return n as usize;
-    }
-    ROWS
+    l[start_of(table)].min(ROWS as u64) as usize
 }
 
 // Where the row i begins.
-fn place(b: usize, i: usize) -> usize
-    requires { (b ≤ start_of Paths) × (i ≤ capacity) }
-    ensures { result ≡ b + 1 + 5 * i }
+fn place(table: Table, i: usize) -> usize
+    requires { i ≤ capacity }
+    ensures { (result ≡ start_of table + 1 + 5 * i) × (result ≤ start_of Paths + 1 + 5 * i) }
 {
-    b + 1 + ROW_WORDS * i
+    start_of(table) + 1 + ROW_WORDS * i
 }
 
-fn key_at(l: &Ledger, b: usize, i: usize) -> u64
-    requires { (b ≤ start_of Paths) × (i < capacity) }
-    ensures { result ≡ (get_or (places_of b l.now) i no_row).key }
+#[tactic(auto, using(crate::proofs::Words::key_is))]
+fn key_at(l: &Ledger, table: Table, i: usize) -> u64
+    requires { i < capacity }
+    ensures { result ≡ (get_or (places_of (start_of table) l.now) i no_row).key }
 {
-    l[place(b, i)]
+    l[place(table, i)]
 }
 
-fn read(l: &Ledger, b: usize, i: usize) -> Row
-    requires { (b ≤ start_of Paths) × (i < capacity) }
-    ensures { result ≡ get_or (places_of b l.now) i no_row }
+#[tactic(auto, using(crate::proofs::Words::read_is))]
+fn read(l: &Ledger, table: Table, i: usize) -> Row
+    requires { i < capacity }
+    ensures { result ≡ get_or (places_of (start_of table) l.now) i no_row }
 {
-    let p = place(b, i);
+    let p = place(table, i);
     Row {
         key: l[p],
         kind: l[p + 1],
@@ -133,11 +128,12 @@ fn read(l: &Ledger, b: usize, i: usize) -> Row
     }
 }
 
-fn write(l: &mut Ledger, b: usize, i: usize, row: Row)
-    requires { (b ≤ start_of Paths) × (i < capacity) }
-    ensures { l.new ≡ tabled b (at l.old b) (set (places_of b l.old) i row) l.old }
+#[tactic(auto, using(crate::proofs::Words::write_is, crate::proofs::Words::table_end))]
+fn write(l: &mut Ledger, table: Table, i: usize, row: Row)
+    requires { i < capacity }
+    ensures { l.new ≡ tabled (start_of table) (at l.old (start_of table)) (set (places_of (start_of table) l.old) i row) l.old }
 {
-    let p = place(b, i);
+    let p = place(table, i);
     l[p] = row.key;
     l[p + 1] = row.kind;
     l[p + 2] = row.a;
@@ -146,26 +142,26 @@ fn write(l: &mut Ledger, b: usize, i: usize, row: Row)
 }
 
 // The row at k comes to i; those from i on, up to it, move one up.
-fn bring(l: &mut Ledger, b: usize, i: usize, k: usize)
-    requires { (b ≤ start_of Paths) × (i ≤ k) × (k < capacity) }
-    ensures { l.new ≡ tabled b (at l.old b) (brought (places_of b l.old) i k) l.old }
+fn bring(l: &mut Ledger, table: Table, i: usize, k: usize)
+    requires { (i ≤ k) × (k < capacity) }
+    ensures { l.new ≡ tabled (start_of table) (at l.old (start_of table)) (brought (places_of (start_of table) l.old) i k) l.old }
 {
-    let row = read(l, b, k);
-    l.copy_within(place(b, i)..place(b, k), place(b, i + 1));
-    write(l, b, i, row);
+    let row = read(l, table, k);
+    l.copy_within(place(table, i)..place(table, k), place(table, i + 1));
+    write(l, table, i, row);
 }
 
 // Of the first n places, the rows below the key come first. Answers how many they are.
-fn divide(l: &mut Ledger, b: usize, n: usize, key: u64) -> usize
-    requires { (b ≤ start_of Paths) × (n < capacity) }
-    ensures count { (result ≡ length (kept (Below key) (take n (places_of b l.old)))) × (result ≤ n) }
-    ensures words { l.new ≡ tabled b (at l.old b) (divided key n (places_of b l.old)) l.old }
+fn divide(l: &mut Ledger, table: Table, n: usize, key: u64) -> usize
+    requires { n < capacity }
+    ensures count { (result ≡ length (kept (Below key) (take n (places_of (start_of table) l.old)))) × (result ≤ n) }
+    ensures words { l.new ≡ tabled (start_of table) (at l.old (start_of table)) (divided key n (places_of (start_of table) l.old)) l.old }
 {
     let mut m = 0;
     for i in 0..n {
-        if key_at(l, b, i) < key {
+        if key_at(l, table, i) < key {
             if m < i {
-                bring(l, b, m, i);
+                bring(l, table, m, i);
             }
             m += 1;
         }
@@ -174,17 +170,16 @@ fn divide(l: &mut Ledger, b: usize, n: usize, key: u64) -> usize
 }
 
 // The marked rows move to the front. Answers how many they are.
-fn pack(l: &mut Ledger, b: usize, marks: Marks) -> usize
-    requires { b ≤ start_of Paths }
-    ensures count { (result ≡ length (marked marks (rows_from b l.old))) × (result ≤ length (rows_from b l.old)) }
-    ensures words { l.new ≡ tabled b (at l.old b) (filled (marked marks (rows_from b l.old)) (places_of b l.old)) l.old }
+fn pack(l: &mut Ledger, table: Table, marks: Marks) -> usize
+    ensures count { (result ≡ length (marked marks (rows_of table l.old))) × (result ≤ length (rows_of table l.old)) }
+    ensures words { l.new ≡ tabled (start_of table) (at l.old (start_of table)) (filled (marked marks (rows_of table l.old)) (places_of (start_of table) l.old)) l.old }
 {
-    let n = count(l, b);
+    let n = used(l, table);
     let mut m = 0;
     for i in 0..n {
         if marks[i] {
             if m < i {
-                write(l, b, m, read(l, b, i));
+                write(l, table, m, read(l, table, i));
             }
             m += 1;
         }
@@ -193,81 +188,14 @@ fn pack(l: &mut Ledger, b: usize, marks: Marks) -> usize
 }
 
 // Zeros in the places from m on, up to n, and the count m where it was n.
-fn settle(l: &mut Ledger, b: usize, n: usize, m: usize)
-    requires { (b ≤ start_of Paths) × (n ≤ capacity) × (m ≤ capacity) }
-    ensures { l.new ≡ tabled b (count_word (at l.old b) n m) (take m (places_of b l.old) ++ (replicate (n - m) no_row ++ drop (m + (n - m)) (places_of b l.old))) l.old }
+fn settle(l: &mut Ledger, table: Table, n: usize, m: usize)
+    requires { (n ≤ capacity) × (m ≤ capacity) }
+    ensures { l.new ≡ tabled (start_of table) (count_word (at l.old (start_of table)) n m) (take m (places_of (start_of table) l.old) ++ (replicate (n - m) no_row ++ drop (m + (n - m)) (places_of (start_of table) l.old))) l.old }
 {
-    l[place(b, m)..place(b, n.max(m))].fill(0);
+    l[place(table, m)..place(table, n.max(m))].fill(0);
     if n != m {
-        l[b] = m as u64;
+        l[start_of(table)] = m as u64;
     }
-}
-
-// ---- the calls, over a table that begins at b
-
-fn find_from(l: &Ledger, b: usize, key: u64) -> Option<Entry>
-    requires { b ≤ start_of Paths }
-    ensures { result ≡ find_in key (rows_from b l.now) }
-{
-    for i in 0..count(l, b) {
-        if key_at(l, b, i) == key {
-            return Some(kinds::entry_of(read(l, b, i)));
-        }
-    }
-    None
-}
-
-fn is_crowded_from(l: &Ledger, b: usize, key: u64) -> bool
-    requires { b ≤ start_of Paths }
-    ensures { result ≡ crowded key (rows_from b l.now) }
-{
-    if count(l, b) < ROWS {
-        return false;
-    }
-    let found = find_from(l, b, key);
-    match found {
-        Some(_) => false,
-        None => true,
-    }
-}
-
-fn marks_from(l: &Ledger, b: usize, keep: Keep) -> Marks
-    requires { b ≤ start_of Paths }
-    ensures { result ≡ marks_by (keeps_row keep) (rows_from b l.now) }
-{
-    let mut marks = [false; ROWS];
-    for i in 0..count(l, b) {
-        marks[i] = keeps(keep, read(l, b, i));
-    }
-    marks
-}
-
-fn retain_from(l: &mut Ledger, b: usize, marks: Marks)
-    requires { b ≤ start_of Paths }
-    ensures { l.new ≡ laid_from b (marked marks (rows_from b l.old)) l.old }
-{
-    let n = count(l, b);
-    let m = pack(l, b, marks);
-    settle(l, b, n, m);
-}
-
-// The rows of the row's key go; the others are divided at it, and it comes between them.
-fn insert_from(l: &mut Ledger, b: usize, row: Row) -> bool
-    requires { b ≤ start_of Paths }
-    ensures answer { result ≡ no (crowded row.key (rows_from b l.old)) }
-    ensures words { l.new ≡ laid_from b (entered row (rows_from b l.old)) l.old }
-{
-    if is_crowded_from(l, b, row.key) {
-        return false;
-    }
-    let used = count(l, b);
-    let marks = marks_from(l, b, Keep::Other(row.key));
-    let n = pack(l, b, marks);
-    let m = divide(l, b, n, row.key);
-    write(l, b, n, row);
-    bring(l, b, m, n);
-    settle(l, b, used, n + 1);
-    true
 }
 
 // ---- the calls
@@ -279,20 +207,13 @@ pub fn empty() -> Ledger
     [0u64; 3 * TABLE_WORDS]
 }
 
-// How many rows are in use.
-pub fn used(l: &Ledger, table: Table) -> usize
-    ensures { (result ≡ length (rows_of table l.now)) × (result ≤ capacity) }
-{
-    count(l, start_of(table))
-}
-
 // The row in use at a place of the order.
+#[tactic(auto, using(crate::proofs::Words::used_is))]
 pub fn row_at(l: &Ledger, table: Table, i: usize) -> Row
     ensures { result ≡ get_or (rows_of table l.now) i no_row }
 {
-    let b = start_of(table);
-    if i < count(l, b) {
-        return read(l, b, i);
+    if i < used(l, table) {
+        return read(l, table, i);
     }
     no_row()
 }
@@ -301,38 +222,63 @@ pub fn row_at(l: &Ledger, table: Table, i: usize) -> Row
 pub fn find(l: &Ledger, table: Table, key: u64) -> Option<Entry>
     ensures { result ≡ find_in key (rows_of table l.now) }
 {
-    find_from(l, start_of(table), key)
+    for i in 0..used(l, table) {
+        if key_at(l, table, i) == key {
+            return Some(kinds::entry_of(read(l, table, i)));
+        }
+    }
+    None
 }
 
 // Whether a row for the key would be the 65th.
 pub fn is_crowded(l: &Ledger, table: Table, key: u64) -> bool
     ensures { result ≡ crowded key (rows_of table l.now) }
 {
-    is_crowded_from(l, start_of(table), key)
+    used(l, table) == ROWS && find(l, table, key).is_none()
 }
 
-// The row in its place; one of its own key gives way. False, and no change, where it would be the 65th.
+// The row in its place; one of its own key gives way. False, and no change, where it would be the 65th. The rows of its key go; the others
+// are divided at it, and it comes between them.
 pub fn insert(l: &mut Ledger, table: Table, row: Row) -> bool
     ensures answer { result ≡ no (crowded row.key (rows_of table l.old)) }
     ensures words { l.new ≡ laid table (entered row (rows_of table l.old)) l.old }
 {
-    insert_from(l, start_of(table), row)
+    if is_crowded(l, table, row.key) {
+        return false;
+    }
+    let before = used(l, table);
+    let marks = marks_of(l, table, Keep::Other(row.key));
+    let n = pack(l, table, marks);
+    let m = divide(l, table, n, row.key);
+    write(l, table, n, row);
+    bring(l, table, m, n);
+    settle(l, table, before, n + 1);
+    true
+}
+
+fn marks_of(l: &Ledger, table: Table, keep: Keep) -> Marks
+    ensures { result ≡ marks_by (keeps_row keep) (rows_of table l.now) }
+{
+    let n = used(l, table);
+    array::from_fn(|i| i < n && keeps(keep, read(l, table, i)))
 }
 
 // The rows that are kept.
+#[tactic(auto, using(crate::proofs::Lists::marks_such))]
 pub fn retain(l: &mut Ledger, table: Table, keep: Keep)
     ensures { l.new ≡ laid table (kept keep (rows_of table l.old)) l.old }
 {
-    let b = start_of(table);
-    let marks = marks_from(l, b, keep);
-    retain_from(l, b, marks);
+    let marks = marks_of(l, table, keep);
+    retain_marked(l, table, marks);
 }
 
 // The rows that are marked.
 pub fn retain_marked(l: &mut Ledger, table: Table, marks: Marks)
     ensures { l.new ≡ laid table (marked marks (rows_of table l.old)) l.old }
 {
-    retain_from(l, start_of(table), marks);
+    let n = used(l, table);
+    let m = pack(l, table, marks);
+    settle(l, table, n, m);
 }
 
 // The rows of other keys.

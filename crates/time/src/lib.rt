@@ -1,7 +1,7 @@
 // Times are milliseconds of 64 bits; sums and differences stop at the ends of that range.
 #![tactic(auto)]
 
-ghost use Rattle.std.specs.Prelude.{◌≡◌, ◌-◌, min};
+ghost use Rattle.std.specs.Prelude.{◌≡◌, ◌-◌};
 ghost use Rattle.time.specs.Time.{plus};
 
 // The largest time.
@@ -17,10 +17,4 @@ pub fn saturating_sub(a: u64, b: u64) -> u64
     ensures { result ≡ a - b }
 {
     a.saturating_sub(b)
-}
-
-pub fn min(a: u64, b: u64) -> u64
-    ensures { result ≡ min a b }
-{
-    a.min(b)
 }

@@ -127,15 +127,6 @@ nearer h = record { on = λ _. (tt, tt, omega (arith, ap length h)); keeps = tt;
 pub broken_behind : (s : List ℕ) {a rest : List ℕ} → first_entry s ≡ Some (a, rest) → broken s ≡ broken rest
 broken_behind s h = go_first false true (λ a b. b) s h
 
-pub shorter : (s : List ℕ) {a rest : List ℕ} → first_entry s ≡ Some (a, rest) → length rest < length s
-shorter s {a} {rest} h = by_test (opens s) refl h
-  where
-    by_test : (o : Bool) → opens s ≡ o → pick o (found s) None ≡ Some (a, rest) → length rest < length s
-    by_test false o t = let z : ◌≡◌ {A = ℕ} 0 1 = cc in absurd (omega arith)
-    by_test true o t =
-        let p = parts (take (size_at s) (drop 2 s), drop (2 + size_at s) s) t in
-        omega (arith, opens_long s o, ap length p.1, length-drop (2 + size_at s) s)
-
 pub broken_unless_empty : (s : List ℕ) → first_entry s ≡ None → not (eqb (length s) 0) ≡ broken s
 broken_unless_empty s h = by_test (eqb (length s) 0) ∙ sym (go_none false true (λ a b. b) s h)
   where

@@ -90,11 +90,3 @@ module _ (o : List ℕ) (at p v : ℕ) (m : at ≤ p) (h : v < 2 ^ (7 * (10 + at
 
 pub stores_last : (o : List ℕ) (p n v : ℕ) → v < 128 → set o p v ≡ sets o p (groups n v)
 stores_last o p n v h = rw (last_one n v h)
-
--- the loop's start: ten groups are left at most
-pub ten_left : (o : List ℕ) (at v : ℕ) → v < 2 ^ 64
-    → (at ≤ at) × (at ≤ at + 9) × (v < 2 ^ (7 * (10 + at - at))) × (sets o at (groups (9 + at - at) v) ≡ sets o at (encoded v))
-ten_left o at v h =
-    let e : 10 + at - at ≡ 10 = omega arith in
-    let d : 9 + at - at ≡ 9 = omega arith in
-    (omega arith, omega arith, rw e (omega arith), rw d)

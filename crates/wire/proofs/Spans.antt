@@ -17,7 +17,7 @@ use Rattle.std.specs.Prelude.{Option, Some, None, cond}
 use Rattle.std.specs.List.{position, position_or_len}
 use Rattle.std.proofs.lemmas.Bool.Decides.{nat_tests}
 use Rattle.prelude.specs.Choice.{pick}
-use Rattle.wire.specs.Varint.{value_of, behind, span_of, valued, varint_of}
+use Rattle.wire.specs.Varint.{value_of, behind, span_of, span_at, valued, varint_of}
 use Rattle.std.proofs.lemmas.Option.{some_pair_parts}
 
 -- ---- where it ends
@@ -49,6 +49,19 @@ span_to_last (suc k) (b ∷ s) = go (ltb b 128) (span_to_last k s)
     go true e = here (length (take k s))
     go false e = later (position_or_len ends (take k s)) (length (take k s)) ∙ ap behind e
 
+-- a place, and one more
+abbrev pub one_more : Option ℕ → Option ℕ
+one_more None = None
+one_more (Some last) = Some (last + 1)
+
+-- the span as an option, by that place
+pub span_at_last : (s : List ℕ) → one_more (position ends (take 10 s)) ≡ span_at s
+span_at_last s = rw (← span_to_last 10 s) (go (position ends (take 10 s)))
+  where
+    go : (p : Option ℕ) → one_more p ≡ pick (eqb (length_to p) 0) None (Some (length_to p))
+    go None = refl
+    go (Some last) = grind (arith, nat_tests)
+
 behind_le : (k n : ℕ) → k ≤ n → behind k ≤ suc n
 behind_le zero n h = omega arith
 behind_le (suc k) n h = omega arith
@@ -63,6 +76,13 @@ span_le (suc n) (b ∷ bs) = go (ltb b 128) (span_le n bs)
         → (pick t 1 (behind (span_of n bs)) ≤ suc n) × (pick t 1 (behind (span_of n bs)) ≤ suc (length bs))
     go true h = (omega arith, omega arith)
     go false h = (behind_le _ _ h.0, behind_le _ _ h.1)
+
+-- where a varint ends, its length: within ten bytes and within the bytes there are
+pub span_found : (s : List ℕ) {n : ℕ} → span_at s ≡ Some n → (n ≡ span_of 10 s) × (0 < n) × (n ≤ 10) × (n ≤ length s)
+span_found s {n} e = go (span_of 10 s) (span_le 10 s) e
+  where
+    go : (k : ℕ) → (k ≤ 10) × (k ≤ length s) → pick (eqb k 0) None (Some k) ≡ Some n → (n ≡ k) × (0 < n) × (n ≤ 10) × (n ≤ length s)
+    go k l e = grind (arith, nat_tests)
 
 -- ---- its number
 
@@ -119,6 +139,23 @@ valued_size k s v n = go (eqb k 0) refl (ltb k 10) (leb (get_or s 9 0) 1)
     go false q true d e = let z : n ≡ k = sym (some_pair_parts _ _ _ _ e).1 in (z, omega (arith, eqb-false k 0 q))
     go false q false true e = let z : n ≡ k = sym (some_pair_parts _ _ _ _ e).1 in (z, omega (arith, eqb-false k 0 q))
     go false q false false e = let z : ◌≡◌ {A = ℕ} 0 1 = cc in absurd (omega arith)
+
+-- what stands first, by the span that is found
+pub no_varint : (s : List ℕ) → span_at s ≡ None → None ≡ varint_of s
+unfolding varint_of
+no_varint s e = go (span_of 10 s) e
+  where
+    go : (k : ℕ) → pick (eqb k 0) None (Some k) ≡ None → None ≡ valued k s
+    go k e = grind (arith, nat_tests)
+
+module _ (s : List ℕ) {n : ℕ} (e : span_at s ≡ Some n) where
+  pub varint_large : n ≡ 10 → 1 < get_or s 9 0 → None ≡ varint_of s
+  unfolding varint_of
+  varint_large t h = let f = span_found s e in rw (sym f.0) (grind (arith, nat_tests))
+
+  pub varint_here : (9 < n → get_or s 9 0 ≤ 1) → {v : ℕ} → v ≡ value_of (take n s) → Some (v, n) ≡ varint_of s
+  unfolding varint_of
+  varint_here t {v} i = let f = span_found s e in rw (sym f.0, i) (grind (arith, nat_tests))
 
 -- a varint has a byte at least, and ends within the bytes
 pub varint_size : (s : List ℕ) (v n : ℕ) → Some (v, n) ≡ varint_of s → (0 < n) × (n ≤ length s) × (n ≤ 10)

@@ -1,3 +1,4 @@
 pub mod Varint
 pub mod Frame
 pub mod Lists
+pub mod Packed

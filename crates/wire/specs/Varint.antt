@@ -18,6 +18,10 @@ span_of zero s = 0
 span_of (suc n) [] = 0
 span_of (suc n) (b ∷ bs) = pick (ltb b 128) 1 (behind (span_of n bs))
 
+-- the same as an option, of at most ten bytes
+abbrev pub span_at : List ℕ → Option ℕ
+span_at s = pick (eqb (span_of 10 s) 0) None (Some (span_of 10 s))
+
 -- the varint of the first n bytes: at most ten, the tenth at most 1
 abbrev pub valued : ℕ → List ℕ → Option (ℕ × ℕ)
 valued n s =

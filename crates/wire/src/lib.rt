@@ -1,25 +1,23 @@
 // Bytes on the wire: protobuf's varints, the frame around a message, and lists of addresses as the host hands them over.
 #![tactic(auto)]
 
-ghost use Rattle.std.specs.Prelude.{◌≡◌, ℕ, ◌+◌, ◌<◌, ◌≤◌, List, length, get_or, take, option_map};
+ghost use Rattle.std.specs.Prelude.{◌≡◌, [], ℕ, ◌+◌, ◌<◌, ◌≤◌, List, length, get_or, take, option_map};
 ghost use Rattle.std.specs.Iterator.{YieldsFirstRef, item_count};
 ghost use Rattle.std.proofs.lemmas.List.Edits.{sets};
-ghost use Rattle.wire.specs.Varint.{span_of, value_of, varint_of, encoded};
+ghost use Rattle.wire.specs.Varint.{span_at, value_of, varint_of, encoded};
 ghost use Rattle.wire.specs.Frame.{max_message_size, reached, frame_from, frame_of};
+ghost use Rattle.wire.specs.Packed.{packed};
 ghost use Rattle.wire.specs.Lists.{first_entry, entries, broken, entry};
 
 use std::marker::Model;
 
 // ---- Varints
 
-// How many bytes the varint has that stands first, at most ten; 0 where none ends.
-fn span(s: &[u8]) -> usize
-    ensures { result ≡ span_of 10 s.now }
+// How many bytes the varint has that stands first, at most ten; none where no byte ends it.
+fn span(s: &[u8]) -> Option<usize>
+    ensures { result ≡ span_at s.now }
 {
-    match s.iter().take(10).position(|b| *b < 128) {
-        Some(last) => last + 1,
-        None => 0,
-    }
+    Some(s.iter().take(10).position(|b| *b < 128)? + 1)
 }
 
 // The number of the first n bytes, from the last group to the first.
@@ -38,8 +36,8 @@ fn value(s: &[u8], n: usize) -> u64
 pub fn first_varint(s: &[u8]) -> Option<(u64, usize)>
     ensures { result ≡ varint_of s.now }
 {
-    let n = span(s);
-    if n == 0 || n == 10 && 1 < s[9] {
+    let n = span(s)?;
+    if n == 10 && 1 < s[9] {
         return None;
     }
     Some((value(s, n), n))
@@ -75,6 +73,8 @@ pub const MAX_MESSAGE_SIZE: usize = 4096;
 // The most bytes of a frame: two of length, then the message.
 pub const MAX_FRAME_SIZE: usize = 4098;
 
+// What the bytes so far are: more are needed, a whole frame, or none that can become whole, of which the Rust's `FrameDecode` tells
+// two kinds apart. Three cases side by side, so no `Result` of an `Option`.
 #[derive(Clone, Copy)]
 pub enum Frame {
     More,
@@ -205,5 +205,25 @@ pub fn put_entry(address: &[u8], out: &mut [u8], at: usize)
         let size = (address.len() % 0x1_0000) as u16;
         put_bytes(&size.to_be_bytes(), out, at);
         put_bytes(address, out, at + 2);
+    }
+}
+
+// ---- Bytes in front of zeros
+
+// Bytes from the first on, zero bytes behind them, and their number.
+#[derive(Clone, Copy)]
+pub struct Packed<const N: usize> {
+    pub bytes: [u8; N],
+    pub len: usize,
+}
+
+impl<const N: usize> Packed<N> {
+    pub fn empty() -> Self
+        ensures { result ≡ packed N [] }
+    {
+        Packed {
+            bytes: [0u8; N],
+            len: 0,
+        }
     }
 }

@@ -7,11 +7,6 @@ use Rattle.address.proofs.big_endian.Goals as goal
 pub overflow_mul-v : goal.overflow_mul-v
 overflow_mul-v c = omega (arith, digit_fits c.loop-b.v 0 c.loop-b.b-index c.loop-b.invariant.0 (omega arith) (omega arith))
 
-pub overflow_add-v : goal.overflow_add-v
-overflow_add-v c =
-    let b : c.from.result < 256 = omega (arith, c.type_inv.s c.loop-b.b-index) in
-    omega (arith, digit_fits c.loop-b.v c.from.result c.loop-b.b-index c.loop-b.invariant.0 b (omega arith))
-
 pub loop-b-preserved : goal.loop-b-preserved
 loop-b-preserved c =
     let b : c.from.result < 256 = omega (arith, c.type_inv.s c.loop-b.b-index) in

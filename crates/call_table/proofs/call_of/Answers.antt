@@ -1,31 +1,33 @@
-use native.Mathlib.Omega.{arith}
-use mathlib.Core.Path.{◌∙◌}
-use Rattle.call_table.proofs.Calling.{all_left, none_left, row_missing, row_found, row_next}
+use mathlib.Core.Path.{sym, ap, ◌∙◌}
+use Rattle.std.proofs.Common.{inl, arith, length, Some}
+use Rattle.call_table.specs.Tables.{call_from}
+use Rattle.call_table.proofs.Calling.{none_left, row_found, row_next, parts_few, begun}
 use Rattle.call_table.proofs.call_of.Goals as goal
 
-pub loop-k-init : goal.loop-k-init
-loop-k-init c = (omega arith, all_left _ _)
+pub loop-row-init : goal.loop-row-init
+loop-row-init c =
+    let e = c.into_iter-row-iterator.ensures.into_iter_gives in
+    let i = ap (λ r. r.iter) e ∙ c.enumerate-row-items.ensures.source ∙ c.cut.ensures in
+    let n = ap (λ r. r.count) e ∙ c.enumerate-row-items.ensures.count in
+    let few = parts_few 10 c.args.table.now in
+    let l = ap length i in
+    (((tt, tt, inl (omega (arith, n, l, few))), tt), omega (arith, n, l, few), begun c.args.table.now c.args.line.now n i)
 
-pub returns-then-table-start : goal.returns-then-table-start
-returns-then-table-start c = c.no_call.ensures ∙ row_missing _ _ _ c.loop-k.invariant.1 c.loop-k-test.true c.part_of-p.ensures.place c.if-table-start.true
+pub returns-in-Some-try_row : goal.returns-in-Some-try_row
+returns-in-Some-try_row c =
+    let s = c.in-Some.ensures.steps in
+    ap (λ k. Some (record { row = k; words = c.in-Some-try_row.words })) s.1 ∙ row_found _ _ _ c.loop-row.invariant.2 s.0 c.try_row.ensures c.in-Some-try_row.is
 
-pub slice_bounds-try_row-count : goal.slice_bounds-try_row-count
-slice_bounds-try_row-count c = omega (arith, c.part_of-p.ensures.within.0, c.part_of-p.ensures.within.1)
-
-pub slice_bounds-try_row-start : goal.slice_bounds-try_row-start
-slice_bounds-try_row-start c = omega (arith, c.part_of-p.ensures.within.0, c.part_of-p.ensures.within.1)
-
-pub slice_bounds-try_row-end : goal.slice_bounds-try_row-end
-slice_bounds-try_row-end c = omega (arith, c.part_of-p.ensures.within.0, c.part_of-p.ensures.within.1)
-
-pub returns-then-t : goal.returns-then-t
-returns-then-t c = row_found _ _ _ c.loop-k.invariant.1 c.loop-k-test.true c.part_of-p.ensures.place c.if-table-start.false c.try_row-t.ensures c.if-t.true
-
-pub loop-k-smaller : goal.loop-k-smaller
-loop-k-smaller c = omega arith
-
-pub loop-k-preserved : goal.loop-k-preserved
-loop-k-preserved c = (omega arith, row_next _ _ _ c.loop-k.invariant.1 c.loop-k-test.true c.part_of-p.ensures.place c.if-table-start.false c.try_row-t.ensures c.if-t.false)
+pub loop-row-preserved : goal.loop-row-preserved
+loop-row-preserved c =
+    let s = c.in-Some.ensures.steps in
+    let h = c.loop-row.invariant.1 in
+    let l = ap length s.0 in
+    let n = s.2 in (
+      ((tt, tt, inl (omega (arith, l, n, h))), tt),
+      omega (arith, l, n, h),
+      row_next _ _ _ c.loop-row.invariant.2 s.0 c.try_row.ensures c.in_default.is ∙ ap (λ k. call_from c.args.line.now k c.next.new.self.iter) (sym n),
+    )
 
 pub returns : goal.returns
-returns c = c.no_call-2.ensures ∙ none_left _ _ _ c.loop-k.invariant.1 c.loop-k-test.false
+returns c = none_left _ _ _ c.loop-row.invariant.2 c.in-None.ensures.steps.0.0

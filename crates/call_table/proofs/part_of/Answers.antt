@@ -1,29 +1,20 @@
-use mathlib.Core.Path.{◌≡◌, ◌∙◌}
-use Prim.Native.Nat.{◌-◌, ◌+◌}
-use native.Mathlib.Omega.{arith}
-use Rattle.call_table.proofs.Parts.{end_within, part_here, part_missing, part_next}
+use mathlib.Core.Path.{◌≡◌, refl, ap, ◌∙◌}
+use mathlib.Core.List.{List, []}
+use Prim.Native.Nat.{ℕ}
+use Rattle.std.proofs.lemmas.Iterator.Consumers.{nth_from_yields_List, YieldsList-from_rest}
+use Rattle.std.proofs.lemmas.Option.{unwrap_or-slice_get}
+use Rattle.std.specs.Prelude.{None, Option, Some}
+use Rattle.std.specs.Borrow.{Bor}
+use Rattle.std.specs.Option.{option_map, unwrap_or}
+use Rattle.call_table.specs.Tables.{parts}
 use Rattle.call_table.proofs.part_of.Goals as goal
 
-pub loop-init : goal.loop-init
-loop-init c = (omega arith, let z : c.args.k - 0 ≡ c.args.k = omega arith in rw z)
-
-pub overflow_add-end : goal.overflow_add-end
-overflow_add-end c = omega (arith, end_within c.args.separator c.args.s.now c.loop.at c.loop.invariant.0 c.length_before.ensures)
-
-pub returns-then-s-end : goal.returns-then-s-end
-returns-then-s-end c = record { place = part_missing _ _ _ c.loop.invariant.0 c.length_before.ensures _ _ c.loop.invariant.1 (λ z. omega arith) c.if-s-end.true; within = (omega arith, omega arith) }
-
-pub loop-preserved : goal.loop-preserved
-loop-preserved c =
-    let z : c.args.k - c.loop.counter - 1 ≡ c.args.k - (c.loop.counter + 1) = omega arith in
-    (omega arith, part_next _ _ _ c.loop.invariant.0 c.length_before.ensures _ _ c.loop.invariant.1 (λ z. omega arith) c.if-s-end.false ∙ rw z)
-
-pub overflow_add-result : goal.overflow_add-result
-overflow_add-result c = omega (arith, end_within c.args.separator c.args.s.now c.loop.at c.loop.invariant.0 c.length_before-2.ensures)
+-- the bytes of what is unwrapped
+shown : (r : Option (Bor (List ℕ))) (d : Bor (List ℕ)) → (unwrap_or r d).now ≡ unwrap_or (option_map (λ (x : Bor (List ℕ)). x.now) r) d.now
+shown (Some x) d = refl
+shown None d = refl
 
 pub returns : goal.returns
 returns c =
-    record {
-      place = part_here _ _ _ c.loop.invariant.0 c.length_before-2.ensures _ _ c.loop.invariant.1 (omega arith);
-      within = (omega arith, end_within c.args.separator c.args.s.now c.loop.at c.loop.invariant.0 c.length_before-2.ensures);
-    }
+    let e = nth_from_yields_List _ _ c.args.k c.nth.ensures.ran (YieldsList-from_rest (parts c.args.separator c.args.s.now) c.cut.ensures) in
+    ap (λ (x : Bor (List ℕ)). x.now) c.unwrap_or.ensures ∙ shown c.nth.result _ ∙ ap (λ r. unwrap_or r []) e ∙ unwrap_or-slice_get (parts c.args.separator c.args.s.now) c.args.k []

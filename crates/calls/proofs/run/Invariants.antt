@@ -5,10 +5,7 @@ use Rattle.calls.specs.Runs.{Ran}
 use Rattle.library_calls.specs.declared.Kept.{Kept}
 use Rattle.calls.proofs.run.Given as goal
 
-abbrev pub invariant-loop-turns : goal.invariant-loop-turns
-invariant-loop-turns l =
+abbrev pub invariant-loop-turn : goal.invariant-loop-turn
+invariant-loop-turn l =
     (longest ≤ length l.line)
-    × ((kept : Kept) (words : List ℕ) → Ran kept words l.initial.block l.initial.ledger l.initial.s → Ran kept words l.block l.ledger l.s)
-
-abbrev pub decreases-loop-turns : goal.decreases-loop-turns
-decreases-loop-turns l = l.turns
+    × ((kept : Kept) (words : List ℕ) → Ran kept words l.initial.block l.initial.kept l.initial.ledger l.initial.s → Ran kept words l.block l.kept l.ledger l.s)

@@ -1,44 +1,32 @@
 use mathlib.Core.Path.{sym, ap, ◌∙◌}
 use native.Mathlib.Omega.{arith}
 use lib.ListN.{length-take}
-use Rattle.ledger.specs.Ledger.{tables_of}
 use Rattle.journal_calls.specs.declared.State.{State as Numbers}
 use Rattle.journal_calls.specs.Calls.{whole}
-use Rattle.journal_text.proofs.Inputs.{blank_lent}
+use Rattle.journal_text.proofs.Inputs.{blank_lent, opened_state, opened_none}
 use Rattle.circuit_questions.proofs.Replaying.{unread_first, refused_first, good_first}
 use Rattle.circuit_questions.proofs.replay.Goals as goal
 
-pub returns-then-s : goal.returns-then-s
-returns-then-s c =
-    let a = c.args in
+pub returns-then-has_failed : goal.returns-then-has_failed
+returns-then-has_failed c =
     let p = c.requires in
-    unread_first _ _ (λ (s : Numbers). whole s a.connect.now a.targets.now (tables_of a.ledger.now) a.ledger.now a.sent.now)
-    (blank_lent p.1 p.2 p.3 p.4 p.5) c.next_line-s.ensures.read p.0 c.if-s.true
+    unread_first _ _ (λ (s : Numbers). whole s c.args.m.now) (blank_lent p.1 p.2) c.next_line-reading.ensures.read p.0 (sym c.has_failed.ensures ∙ c.if-has_failed.true)
 
-pub slice_bounds-open_journal-end-2 : goal.slice_bounds-open_journal-end-2
-slice_bounds-open_journal-end-2 c = simp length-take (omega (arith, c.next_line-s.ensures.used))
+pub slice_bounds-open_into-end-2 : goal.slice_bounds-open_into-end-2
+slice_bounds-open_into-end-2 c = simp length-take (omega (arith, c.next_line-reading.ensures.used))
 
 pub run-requires : goal.run-requires
-run-requires c = omega (arith, c.requires.0, c.next_line-s.auto.line)
+run-requires c = omega (arith, c.requires.0, c.next_line-reading.auto.line)
 
-pub shape_of-block-then-o : goal.shape_of-block-then-o
-shape_of-block-then-o c = c.run.auto.block ∙ c.next_line-s.auto.block
-
-pub shape_of-line-then-o : goal.shape_of-line-then-o
-shape_of-line-then-o c = c.run.auto.line ∙ c.next_line-s.auto.line
-
-pub returns-then-o : goal.returns-then-o
-returns-then-o c =
-    let a = c.args in
+pub returns-in-Some : goal.returns-in-Some
+returns-in-Some c =
     let p = c.requires in
-    good_first _ _ (λ (s : Numbers). whole s a.connect.now a.targets.now (tables_of a.ledger.now) a.ledger.now a.sent.now)
-    (blank_lent p.1 p.2 p.3 p.4 p.5) c.next_line-s.ensures.read p.0 (sym c.open_journal-o.ensures.good ∙ c.if-o.true)
-    (ap (λ (s : Numbers). whole s a.connect.now a.targets.now (tables_of a.ledger.now) a.ledger.now a.sent.now) c.open_journal-o.ensures.state
-    ∙ blank_lent p.1 p.2 p.3 p.4 p.5 _) c.open_journal-o.ensures.bytes c.run.ensures
+    let t = opened_state _ (sym (rw c.has_feed.ensures at c.open_into-opening.ensures.state) ∙ c.in-Some.is) in
+    good_first _ _ (λ (s : Numbers). whole s c.args.m.now) (blank_lent p.1 p.2) c.next_line-reading.ensures.read p.0 t.1
+    (ap (λ (s : Numbers). whole s c.args.m.now) t.0 ∙ blank_lent p.1 p.2 _) (rw c.has_feed.ensures at c.open_into-opening.ensures.bytes) c.run.ensures
 
-pub returns : goal.returns
-returns c =
-    let a = c.args in
+pub returns-in-None : goal.returns-in-None
+returns-in-None c =
     let p = c.requires in
-    refused_first _ _ (λ (s : Numbers). whole s a.connect.now a.targets.now (tables_of a.ledger.now) a.ledger.now a.sent.now)
-    (blank_lent p.1 p.2 p.3 p.4 p.5) c.next_line-s.ensures.read p.0 c.if-s.false (sym c.open_journal-o.ensures.good ∙ c.if-o.false) _ c.open_journal-o.ensures.bytes c.open_journal-o.ensures.place
+    refused_first _ _ (λ (s : Numbers). whole s c.args.m.now) (blank_lent p.1 p.2) c.next_line-reading.ensures.read p.0 (sym c.has_failed.ensures ∙ c.if-has_failed.false)
+    (opened_none _ (sym (rw c.has_feed.ensures at c.open_into-opening.ensures.state) ∙ c.in-None.is)) _ (rw c.has_feed.ensures at c.open_into-opening.ensures.bytes) (rw c.has_feed.ensures at c.open_into-opening.ensures.place)

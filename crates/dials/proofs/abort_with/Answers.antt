@@ -1,5 +1,5 @@
 use Prim.Native.Nat.{◌≤◌}
-use mathlib.Core.Path.{◌≡◌, refl, ap, ◌∙◌}
+use mathlib.Core.Path.{◌≡◌, ap, ◌∙◌}
 use mathlib.Core.List.{List}
 use native.Mathlib.Omega.{arith}
 use lib.ListN.{length}
@@ -9,13 +9,8 @@ use Rattle.rows.specs.declared.Table.TheVariants.{Dials}
 use Rattle.rows.specs.Rows.{marked}
 use Rattle.rows.specs.Words.{rows_of, laid}
 use Rattle.rows.proofs.Words.{used_is}
-use Rattle.dials.specs.Dials.{abort_with}
 use Rattle.dials.proofs.Staying.{staying_left}
 use Rattle.dials.proofs.abort_with.Goals as goal
-
-pub returns-clause-answer : goal.returns-clause-answer
-unfolding abort_with
-returns-clause-answer c = rw (c.retired_of-retired.ensures, c.closed_of-close.ensures) refl
 
 pub returns-clause-words : goal.returns-clause-words
 returns-clause-words c =

@@ -10,7 +10,7 @@ use Rattle.std.proofs.Common.{rules, tests}
 use Rattle.rows.specs.declared.Table.TheVariants.{Dials}
 use Rattle.rows.specs.Words.{rows_of, no_row}
 use Rattle.dials.specs.Dials.{staying, pairs}
-use Rattle.dials.proofs.Arrays.{made_padded}
+use Rattle.rows.proofs.Arrays.{made_padded}
 use Rattle.dials.proofs.Each.{length_pairs}
 use Rattle.dials.proofs.Staying.{stays_of, mark_place}
 use Rattle.dials.proofs.staying_of.Goals as goal

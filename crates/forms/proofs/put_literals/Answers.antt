@@ -12,4 +12,4 @@ returns c =
     let e = c.unwrap_or-n.ensures
     ∙ sym (index_from_first literals (λ b. is_literal (kind_of b) ≡ false) (λ b. is_literal (kind_of b) ≡ true) (literals_none) literals_stop literals_go_on s c.position.result
     (IsFirst-from_position _ _ _ (λ b. is_literal (kind_of b) ≡ false) (λ b. is_literal (kind_of b) ≡ true) c.position.ensures.ran (YieldsList-from_slice s cc) (λ x q k. search (rules, tests)) (λ x q k. search (rules, tests)))) in
-    record { bytes = rw (← e) c.put_text.ensures.bytes; count = e }
+    record { bytes = rw (← e) c.put_text.ensures; count = e }

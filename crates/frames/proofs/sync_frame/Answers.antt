@@ -6,7 +6,7 @@ use lib.ListN.{set}
 use Rattle.wire.specs.Varint.{groups}
 use Rattle.message.specs.Encoding.{address_fields}
 use Rattle.frames.specs.Sent.{sync_frame}
-use Rattle.frames.specs.declared.Framed.{Framed}
+use Rattle.frames.specs.Sent.{Framed}
 use Rattle.frames.proofs.sync_frame.Goals as goal
 
 pub returns : goal.returns

@@ -15,10 +15,10 @@ pub read_ahead-requires : goal.read_ahead-requires
 read_ahead-requires c = whole_inside c.args.input.now c.args.buffer.now c.args.count c.args.out.now c.look_ahead-g.ensures c.in-Whole.is
 
 pub returns-in-More : goal.returns-in-More
-returns-in-More c = record { answer = (reply_more c.args.input.now c.args.buffer.now c.args.count c.args.out.now c.look_ahead-g.ensures c.in-More.is).0; stored = (reply_more c.args.input.now c.args.buffer.now c.args.count c.args.out.now c.look_ahead-g.ensures c.in-More.is).1 }
+returns-in-More c = let t = reply_more c.args.input.now c.args.buffer.now c.args.count c.args.out.now c.look_ahead-g.ensures c.in-More.is in record { answer = t.0; stored = t.1 }
 
 pub returns-in-Broken : goal.returns-in-Broken
-returns-in-Broken c = record { answer = (reply_broken c.args.input.now c.args.buffer.now c.args.count c.args.out.now c.look_ahead-g.ensures c.in-Broken.is).0; stored = (reply_broken c.args.input.now c.args.buffer.now c.args.count c.args.out.now c.look_ahead-g.ensures c.in-Broken.is).1 }
+returns-in-Broken c = let t = reply_broken c.args.input.now c.args.buffer.now c.args.count c.args.out.now c.look_ahead-g.ensures c.in-Broken.is in record { answer = t.0; stored = t.1 }
 
 pub returns-in-Whole : goal.returns-in-Whole
-returns-in-Whole c = record { answer = (reply_whole c.args.input.now c.args.buffer.now c.args.count c.args.out.now c.look_ahead-g.ensures c.in-Whole.is c.read_ahead.ensures.answer c.read_ahead.ensures.stored).0; stored = (reply_whole c.args.input.now c.args.buffer.now c.args.count c.args.out.now c.look_ahead-g.ensures c.in-Whole.is c.read_ahead.ensures.answer c.read_ahead.ensures.stored).1 }
+returns-in-Whole c = let t = reply_whole c.args.input.now c.args.buffer.now c.args.count c.args.out.now c.look_ahead-g.ensures c.in-Whole.is c.read_ahead.ensures.answer c.read_ahead.ensures.stored in record { answer = t.0; stored = t.1 }

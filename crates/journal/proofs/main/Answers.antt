@@ -1,9 +1,8 @@
-use mathlib.Core.Path.{refl, ap}
+use mathlib.Core.Path.{refl}
 use native.Mathlib.Omega.{arith}
-use Rattle.candidates.specs.declared.Chosen.{Chosen}
 use Rattle.lines.specs.Lines.{longest}
 use Rattle.journal_text.proofs.Inputs.{zeros_long}
 use Rattle.journal.proofs.main.Goals as goal
 
 pub replay-e-requires : goal.replay-e-requires
-replay-e-requires c = (zeros_long longest (omega arith), omega (arith, zeros_long 65536 (omega arith)), refl, c.blank-connect.ensures, ap (λ (z : Chosen). z.bytes) c.empty-none.ensures, c.blank-sent.ensures, c.empty-ledger.ensures.words, c.empty-ledger.ensures.tables)
+replay-e-requires c = (zeros_long longest (omega arith), omega (arith, zeros_long 65536 (omega arith)), refl, c.blank-memory.ensures.bytes, c.blank-memory.ensures.tables)

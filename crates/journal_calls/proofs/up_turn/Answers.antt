@@ -1,14 +1,8 @@
-use Rattle.journal_calls.specs.Calls.{settled_in}
-use Rattle.circuit.specs.declared.decision.Decision.{Decision}
-use mathlib.Core.Path.{◌∙◌, ap}
+use Rattle.journal_calls.proofs.Turning.{up_left}
 use Rattle.journal_calls.proofs.up_turn.Goals as goal
 
 pub returns : goal.returns
 returns c =
-    record {
-      turn = c.settle.ensures ∙ ap (λ (z : Decision). settled_in c.args.j z z.outcome) c.on_connection_established-d.ensures.answer;
-      connect = c.on_connection_established-d.ensures.connect;
-      sent = c.on_connection_established-d.ensures.sent;
-      tables = c.on_connection_established-d.ensures.tables;
-      words = c.on_connection_established-d.ensures.words;
-    }
+    let a = c.args in
+    let e = c.on_connection_established-d.ensures in
+    up_left a.j a.core a.m.now c.known.ensures a.host a.own.now a.peer a.conn a.circuit c.with_core.ensures c.settle.ensures e.answer e.connect e.sent e.tables e.words

@@ -1,11 +1,11 @@
-use mathlib.Core.Path.{◌∙◌}
-use Rattle.text.proofs.Printing.{laid, parts, length_kept}
-use Rattle.forms.proofs.Print.{same}
-use Rattle.journal_prints.proofs.Words.{burst_text, after}
+use mathlib.Core.Path.{ap, ◌∙◌}
+use mathlib.Core.List.{[], ◌∷◌}
+use Rattle.text.specs.Printed.{with_text}
+use Rattle.text.proofs.Printing.{with_texts}
+use Rattle.forms.specs.Forms.{kind_of}
+use Rattle.forms.specs.Texts.{value_in, values_from, values_in}
 use Rattle.journal_prints.proofs.put_burst.Goals as goal
 
-pub shape_of-out : goal.shape_of-out
-shape_of-out c = length_kept (laid _ _ _ (c.put_byte.ensures.bytes, c.put_byte.ensures.place)) ∙ length_kept (laid _ _ _ (c.put_targets-p.ensures.bytes, c.put_targets-p.ensures.place)) ∙ length_kept (laid _ _ _ (c.put_form-p.ensures.bytes, c.put_form-p.ensures.place))
-
 pub returns : goal.returns
-returns c = record { bytes = (parts (after (same (burst_text _ _ _ _) (laid _ _ _ (c.put_form-p.ensures.bytes, c.put_form-p.ensures.place))) (laid _ _ _ (c.put_targets-p.ensures.bytes, c.put_targets-p.ensures.place)) (laid _ _ _ (c.put_byte.ensures.bytes, c.put_byte.ensures.place)))).0; place = (parts (after (same (burst_text _ _ _ _) (laid _ _ _ (c.put_form-p.ensures.bytes, c.put_form-p.ensures.place))) (laid _ _ _ (c.put_targets-p.ensures.bytes, c.put_targets-p.ensures.place)) (laid _ _ _ (c.put_byte.ensures.bytes, c.put_byte.ensures.place)))).1 }
+unfolding values_in values_from value_in kind_of
+returns c = rw (c.put_byte.ensures, c.put_targets.ensures, c.put_form.ensures) (ap (λ p. with_text p (10 ∷ [])) (with_texts _ _ _) ∙ with_texts _ _ _)

@@ -13,4 +13,4 @@ pub slice_bounds-gather-end-2 : goal.slice_bounds-gather-end-2
 slice_bounds-gather-end-2 c = simp length-take (omega arith)
 
 pub returns : goal.returns
-returns c = record { used = used_within _ _ _ _ c.gather-g.ensures.result (omega arith); block = omega arith; read = by_block _ _ _ _ _ c.gather-g.ensures.result c.gather-g.ensures.bytes (omega arith) (omega arith) }
+returns c = record { used = used_within _ _ _ _ c.gather-g.ensures.result (omega arith); block = omega arith; read = rw c.then_some.ensures (by_block _ _ _ _ _ c.gather-g.ensures.result c.gather-g.ensures.bytes (omega arith) (omega arith)) }

@@ -1,6 +1,5 @@
 use native.Mathlib.Omega.{arith}
-use Rattle.text.proofs.Printing.{laid}
-use Rattle.lines.proofs.Gathering.{ends_within, ended, goes_on, nothing}
+use Rattle.lines.proofs.Gathering.{come_to, ends_within, ended, goes_on, nothing}
 use Rattle.lines.proofs.gather.Goals as goal
 
 pub returns-then-block-from : goal.returns-then-block-from
@@ -12,8 +11,8 @@ overflow_add-e c = omega (arith, ends_within c.args.block.now c.args.from c.leng
 pub slice_bounds-put_text-end : goal.slice_bounds-put_text-end
 slice_bounds-put_text-end c = omega (arith, ends_within c.args.block.now c.args.from c.length_before-n.ensures (omega arith))
 
-pub returns-then-e-block : goal.returns-then-e-block
-returns-then-e-block c = record { result = (ended c.args.block.now c.args.from c.length_before-n.ensures (laid _ _ _ (c.put_text-p.ensures.bytes, c.put_text-p.ensures.place)) c.if-e-block.true).0; bytes = (ended c.args.block.now c.args.from c.length_before-n.ensures (laid _ _ _ (c.put_text-p.ensures.bytes, c.put_text-p.ensures.place)) c.if-e-block.true).1 }
+pub returns-then-e-block-clause-result : goal.returns-then-e-block-clause-result
+returns-then-e-block-clause-result c = ended c.args.block.now c.args.from c.length_before-n.ensures c.args.line.now c.args.used (come_to _ _ c.put_text.ensures) c.if-e-block.true
 
-pub returns : goal.returns
-returns c = record { result = (goes_on c.args.block.now c.args.from c.length_before-n.ensures (laid _ _ _ (c.put_text-p.ensures.bytes, c.put_text-p.ensures.place)) c.if-e-block.false).0; bytes = (goes_on c.args.block.now c.args.from c.length_before-n.ensures (laid _ _ _ (c.put_text-p.ensures.bytes, c.put_text-p.ensures.place)) c.if-e-block.false).1 }
+pub returns-clause-result : goal.returns-clause-result
+returns-clause-result c = goes_on c.args.block.now c.args.from c.length_before-n.ensures c.args.line.now c.args.used (come_to _ _ c.put_text.ensures) c.if-e-block.false

@@ -10,7 +10,7 @@ use Rattle.rows.specs.Words.{rows_of, no_row}
 use Rattle.rows.proofs.Words.{used_is}
 use Rattle.kinds.specs.Kinds.{entry_of}
 use Rattle.dials.specs.Dials.{asked_of}
-use Rattle.dials.proofs.Arrays.{made_padded}
+use Rattle.rows.proofs.Arrays.{made_padded}
 use Rattle.live_dials.specs.Asking.{asked_rows}
 use Rattle.live_dials.proofs.asked_rows.Goals as goal
 

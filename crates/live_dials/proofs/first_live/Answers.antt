@@ -1,25 +1,41 @@
-use Rattle.std.proofs.Common.{◌≡◌, ℕ, ◌+◌, ◌<◌, ◌≤◌, Bool, true, false, List, length, get_or, drop, refl, ap, sym, ◌∙◌, add-one, arith, drop-cons, None, Some}
-use lib.ListN.{drop_of_length-le}
-use Rattle.prelude.specs.Choice.{pick}
+-- What is found is the connection of the first record that `find` gives.
+use mathlib.Core.Path.{◌≡◌, refl, sym, ap, ◌∙◌}
+use mathlib.Core.Bool.{Bool, true, false, cond}
+use mathlib.Core.List.{List, [], ◌∷◌}
+use Rattle.std.proofs.Common.{rules, tests}
+use Rattle.std.specs.Prelude.{None, Option, Some, option_map}
+use Rattle.std.specs.List.{find}
+use Rattle.std.proofs.lemmas.Iterator.{YieldsList-from_slice}
+use Rattle.std.proofs.lemmas.Iterator.Search.{find_from_yields_List}
 use Rattle.ids.specs.declared.PeerId.{PeerId}
 use Rattle.live_dials.specs.declared.Live.{Live}
-use Rattle.live_dials.specs.First.{is_peer, first_live, no_live}
+use Rattle.live_dials.specs.First.{is_peer, first_live}
+use Rattle.prelude.specs.Choice.{pick}
 use Rattle.live_dials.proofs.first_live.Goals as goal
+use Rattle.live_dials.proofs.first_live.Goals.{After-find}
 
-module _ (ys : List Live) (p : PeerId) (i : ℕ) (e : first_live ys p ≡ first_live (drop i ys) p) where
-  opened : (t : Bool) → i < length ys → t ≡ is_peer (get_or ys i no_live) p → first_live ys p ≡ pick t (Some (get_or ys i no_live).connection) (first_live (drop (i + 1) ys) p)
-  unfolding first_live
-  opened t l h = e ∙ ap (λ (zs : List Live). first_live zs p) (drop-cons ys i no_live l) ∙ rw (h, add-one) refl
+by_find : (ls : List Live) (p : PeerId) → first_live ls p ≡ option_map (λ (l : Live). l.connection) (find (λ (l : Live). is_peer l p) ls)
+unfolding first_live
+by_find [] p = refl
+by_find (l ∷ ls) p = go (is_peer l p) (by_find ls p)
+  where
+    go : (t : Bool) → first_live ls p ≡ option_map (λ (l : Live). l.connection) (find (λ (l : Live). is_peer l p) ls)
+        → pick t (Some l.connection) (first_live ls p) ≡ option_map (λ (l : Live). l.connection) (cond t (Some l) (find (λ (l : Live). is_peer l p) ls))
+    go true e = refl
+    go false e = e
 
-  none : length ys ≤ i → None ≡ first_live ys p
-  unfolding first_live
-  none l = sym (e ∙ ap (λ (zs : List Live). first_live zs p) (drop_of_length-le ys {i = i} l))
+module _ (ls : List Live) (p : PeerId) {o : Option Live} (e : o ≡ find (λ (l : Live). is_peer l p) ls) where
+  at_some : {l : Live} → o ≡ Some l → Some l.connection ≡ first_live ls p
+  at_some s = ap (option_map (λ (l : Live). l.connection)) (sym s ∙ e) ∙ sym (by_find ls p)
 
-pub returns-then-is_peer : goal.returns-then-is_peer
-returns-then-is_peer c = sym (opened c.args.live.now c.args.peer c.loop-l.l-index c.loop-l.invariant true (omega arith) c.if-is_peer.ensures)
+  at_none : o ≡ None → None ≡ first_live ls p
+  at_none s = ap (option_map (λ (l : Live). l.connection)) (sym s ∙ e) ∙ sym (by_find ls p)
 
-pub loop-l-preserved : goal.loop-l-preserved
-loop-l-preserved c = opened c.args.live.now c.args.peer c.loop-l.l-index c.loop-l.invariant false (omega arith) c.if-is_peer.ensures
+found : (c : After-find) → option_map (λ r. r.now) c.find.result ≡ find (λ (l : Live). is_peer l c.args.peer) c.args.live.now
+found c = find_from_yields_List (λ (l : Live). is_peer l c.args.peer) _ _ c.find.result c.find.ensures.ran (YieldsList-from_slice c.args.live.now cc) (λ x b q k. search (rules, tests))
 
 pub returns : goal.returns
-returns c = none c.args.live.now c.args.peer c.loop-l.l-index c.loop-l.invariant (omega arith)
+returns c = at_some c.args.live.now c.args.peer (found (goal.at.returns c).After-find) {l = c.in_ok-first.first.now} (rw c.in_ok-first.was refl)
+
+pub returns-in_err-first : goal.returns-in_err-first
+returns-in_err-first c = c.from_residual.ensures ∙ at_none c.args.live.now c.args.peer (found (goal.at.returns-in_err-first c).After-find) (rw c.in_err-first.was refl)

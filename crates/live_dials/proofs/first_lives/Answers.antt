@@ -1,6 +1,6 @@
 use Rattle.std.proofs.Common.{rules}
 use native.Mathlib.Omega.{arith}
-use Rattle.dials.proofs.Arrays.{mapped}
+use Rattle.rows.proofs.Arrays.{mapped}
 use Rattle.live_dials.specs.First.{first_live, no_peer}
 use Rattle.live_dials.proofs.first_lives.Goals as goal
 

@@ -1,12 +1,12 @@
 -- `message::measure` meets its contract: the invariant: what is left to scan, with the type and the length so far, measures as the whole does.
 use Rattle.std.proofs.Common.{ℕ, ◌≡◌, ◌+◌, ◌≤◌, length}
-use Rattle.message.specs.Message.{scan, content_of, measured}
-use Rattle.message.proofs.Scan.{longer}
+use Rattle.message.specs.Message.{scan, content_of, with_room}
+use Rattle.message.proofs.Scan.{longer, met}
 use Rattle.message.proofs.measure.Given as goal
 
-abbrev pub invariant-loop-rest : goal.invariant-loop-rest
-invariant-loop-rest l =
-    (n : ℕ) × (length l.rest ≤ n) × (l.size + length l.rest ≤ length l.s) × (longer l.size (measured (scan n l.kind l.rest)) ≡ measured (content_of l.s))
+abbrev pub invariant-loop-field : goal.invariant-loop-field
+invariant-loop-field l =
+    (n : ℕ) × (k : ℕ) × (met k ≡ l.kind) × (length l.rest ≤ n) × (l.size + length l.rest ≤ length l.s) × (longer l.size (with_room (scan n k l.rest)) ≡ with_room (content_of l.s))
 
-abbrev pub decreases-loop-rest : goal.decreases-loop-rest
-decreases-loop-rest l = length l.rest
+abbrev pub decreases-loop-field : goal.decreases-loop-field
+decreases-loop-field l = length l.rest

@@ -1,63 +1,45 @@
 -- `message::put_addresses` meets its contract: a turn takes the field in front, and what follows it is left.
-use Rattle.std.proofs.Common.{refl, ◌∙◌, ◌+◌, ◌-◌, arith, length, length-drop}
+use Rattle.std.proofs.Common.{ℕ, List, ◌≡◌, ap, refl, sym, subst, ◌∙◌, ◌+◌, ◌-◌, ◌≤◌, arith, length, length-drop}
+use Rattle.std.specs.Prelude.{Some}
 use Rattle.wire.proofs.Spans.{rest_of}
-use Rattle.message.proofs.Scan.{some_left, none_left, typed_within, address_within, other_within}
-use Rattle.message.proofs.Addresses.{left_end, left_malformed, left_typed, left_other, left_entry}
+use lib.Seq.{sets}
+use Rattle.wire.specs.Lists.{listed}
+use Rattle.message.specs.Message.{scan, content_of, addresses}
+use Rattle.message.proofs.Scan.{address_within}
+use Rattle.message.proofs.Addresses.{left_end, left_none, Left, moved, left_entry}
 use Rattle.message.proofs.put_addresses.Goals as goal
 
-pub loop-rest-init : goal.loop-rest-init
-loop-rest-init c = (length c.args.s.now, 0, omega arith, omega arith, (c.requires.1, refl), refl)
+pub loop-field-init : goal.loop-field-init
+loop-field-init c = (length c.args.s.now, 0, omega arith, omega arith, (c.requires.1, refl), refl)
 
-pub returns-in-Malformed : goal.returns-in-Malformed
-returns-in-Malformed c =
-    let l = c.loop-rest in
-    let some = some_left (length l.rest.now) c.is_empty.ensures c.loop-rest-test.true in
-    absurd (left_malformed l.rest.now c.first_field.ensures l.invariant.0 l.invariant.1 l.invariant.2 some l.out l.p _ l.invariant.4 c.in-Malformed.is)
-
-pub loop-rest-preserved-in-Typed : goal.loop-rest-preserved-in-Typed
-loop-rest-preserved-in-Typed c =
-    let l = c.loop-rest in
-    let some = some_left (length l.rest.now) c.is_empty.ensures c.loop-rest-test.true in
-    let z = typed_within l.rest.now c.first_field.ensures c.in-Typed.is in
-    rw (rest_of l.rest.now c.in-Typed.size) (
-      l.invariant.0 - 1,
-      c.in-Typed.value,
-      omega (arith, length-drop c.in-Typed.size l.rest.now),
-      omega (arith, length-drop c.in-Typed.size l.rest.now),
-      left_typed l.rest.now c.first_field.ensures l.invariant.0 l.invariant.1 l.invariant.2 some l.out l.p _ l.invariant.4 c.in-Typed.is,
-      l.invariant.5,
-    )
-
-pub loop-rest-preserved-in-Address : goal.loop-rest-preserved-in-Address
-loop-rest-preserved-in-Address c =
-    let l = c.loop-rest in
+pub loop-field-preserved-in-Address-1 : goal.loop-field-preserved-in-Address-1
+loop-field-preserved-in-Address-1 c =
+    let l = c.loop-field in
     let n = c.in-Address.start + c.in-Address.len in
-    let some = some_left (length l.rest.now) c.is_empty.ensures c.loop-rest-test.true in
-    let z = address_within l.rest.now c.first_field.ensures c.in-Address.is in
+    let d = c.in-Some.is ∙ ap Some c.in-Address.is in
+    let z = address_within l.rest.now c.first_field.ensures d in
     rw (rest_of l.rest.now n) (
       l.invariant.0 - 1,
       l.invariant.1,
       omega (arith, length-drop n l.rest.now),
       omega (arith, length-drop n l.rest.now),
-      left_entry l.rest.now c.first_field.ensures l.invariant.0 l.invariant.1 l.invariant.2 some l.out l.p _ l.invariant.4 c.in-Address.is c.put_entry.ensures,
+      left_entry l.rest.now c.first_field.ensures l.invariant.0 l.invariant.1 l.invariant.2 l.out l.p _ l.invariant.4 d c.put_entry.ensures,
       c.put_entry.auto.out ∙ l.invariant.5,
     )
 
-pub loop-rest-preserved : goal.loop-rest-preserved
-loop-rest-preserved c =
-    let l = c.loop-rest in
-    let some = some_left (length l.rest.now) c.is_empty.ensures c.loop-rest-test.true in
-    let z = other_within l.rest.now c.first_field.ensures c.in-Other.is in
-    rw (rest_of l.rest.now c.in-Other.size) (
-      l.invariant.0 - 1,
-      l.invariant.1,
-      omega (arith, length-drop c.in-Other.size l.rest.now),
-      omega (arith, length-drop c.in-Other.size l.rest.now),
-      left_other l.rest.now c.first_field.ensures l.invariant.0 l.invariant.1 l.invariant.2 some l.out l.p _ l.invariant.4 c.in-Other.is,
-      l.invariant.5,
-    )
+pub loop-field-preserved : goal.loop-field-preserved
+loop-field-preserved c =
+    let l = c.loop-field in
+    let s = l.rest.now in
+    let n = c.in-Typed.size in
+    let w = moved s c.first_field.ensures l.invariant.0 l.invariant.1 l.invariant.2 l.out l.p _ l.invariant.4 c.in-Some.is c.in-Typed.is in
+    subst (λ (t : List ℕ). (m : ℕ) × (k : ℕ) × (length t ≤ m) × (l.p + length t ≤ length c.args.s.now)
+    × Left (scan m k t) l.out l.p (sets c.args.out.now 0 (listed (addresses (content_of c.args.s.now)))) × (length l.out ≡ length c.args.out.now))
+    (sym (rest_of s n))
+    (l.invariant.0 - 1, w.0, omega (arith, w.1, length-drop n s), omega (arith, w.1, length-drop n s), w.2, l.invariant.5)
 
 pub returns : goal.returns
 returns c =
-    let l = c.loop-rest in
-    left_end l.rest.now l.invariant.0 l.invariant.1 l.out l.p _ (none_left (length l.rest.now) c.is_empty.ensures c.loop-rest-test.false) l.invariant.4
+    let l = c.loop-field in
+    let none = left_none l.rest.now c.first_field.ensures l.invariant.0 l.invariant.1 l.invariant.2 l.out l.p _ l.invariant.4 c.in_default.is in
+    left_end l.rest.now l.invariant.0 l.invariant.1 l.out l.p _ none l.invariant.4

@@ -6,10 +6,10 @@ use Rattle.message.specs.Message.{scan, content_of, addresses}
 use Rattle.message.proofs.Addresses.{Left}
 use Rattle.message.proofs.put_addresses.Given as goal
 
-abbrev pub invariant-loop-rest : goal.invariant-loop-rest
-invariant-loop-rest l =
+abbrev pub invariant-loop-field : goal.invariant-loop-field
+invariant-loop-field l =
     (n : ℕ) × (k : ℕ) × (length l.rest ≤ n) × (l.p + length l.rest ≤ length l.s)
     × Left (scan n k l.rest) l.out l.p (sets l.initial.out 0 (listed (addresses (content_of l.s)))) × (length l.out ≡ length l.initial.out)
 
-abbrev pub decreases-loop-rest : goal.decreases-loop-rest
-decreases-loop-rest l = length l.rest
+abbrev pub decreases-loop-field : goal.decreases-loop-field
+decreases-loop-field l = length l.rest

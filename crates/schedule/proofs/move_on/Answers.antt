@@ -15,11 +15,5 @@ returns-then-until-at c =
           (rw (sym c.step-each.ensures) (omega (arith, over_mul c.args.times (c.args.until - c.args.at) c.step-each.result (omega arith) w.if-until-at-2.true)))
     ]
 
-pub overflow_mul-result : goal.overflow_mul-result
-overflow_mul-result c = omega (arith, fits_mul c.args.times (c.args.until - c.args.at) c.step-each.result (omega arith) (omega arith))
-
-pub overflow_add-result : goal.overflow_add-result
-overflow_add-result c = omega (arith, fits_mul c.args.times (c.args.until - c.args.at) c.step-each.result (omega arith) (omega arith))
-
 pub returns : goal.returns
 returns c = moved_next c.args.at c.args.until c.args.interval c.args.times c.step-each.result c.step-each.ensures (omega (arith, fits_mul c.args.times (c.args.until - c.args.at) c.step-each.result (omega arith) (omega arith)))

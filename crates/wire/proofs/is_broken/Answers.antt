@@ -1,10 +1,7 @@
 -- What follows an entry is broken just where the list is; where no entry stands, a list is broken unless it is empty.
 use Rattle.std.proofs.Common.{not, sym, ap, ◌∙◌}
-use Rattle.wire.proofs.EntryByEntry.{gave, gave_none, broken_behind, broken_unless_empty, shorter}
+use Rattle.wire.proofs.EntryByEntry.{gave, gave_none, broken_behind, broken_unless_empty}
 use Rattle.wire.proofs.is_broken.Goals as goal
-
-pub loop-behind-smaller : goal.loop-behind-smaller
-loop-behind-smaller c = shorter _ (gave c.loop-behind.rest.now c.first_entry.ensures c.in-Some.is)
 
 pub loop-behind-preserved : goal.loop-behind-preserved
 loop-behind-preserved c = c.loop-behind.invariant ∙ broken_behind _ (gave c.loop-behind.rest.now c.first_entry.ensures c.in-Some.is)

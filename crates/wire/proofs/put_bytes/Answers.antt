@@ -1,5 +1,5 @@
 -- `wire::put_bytes` meets its contract: as many bytes are copied as there is room for.
-use Rattle.std.proofs.Common.{sym, ap, arith, take, drop, ◌+◌, ◌++◌, ◌∙◌, length}
+use Rattle.std.proofs.Common.{sym, arith, ◌+◌}
 use borrow.Rule.Slice.PartMut.{Post-is}
 use Rattle.wire.proofs.Stores.{sets_out, sets_within}
 use Rattle.wire.proofs.put_bytes.Goals as goal

@@ -1,5 +1,4 @@
 -- `wire::put_entry` meets its contract: the length, as far as there is room, then the address.
-use Rattle.std.proofs.Common.{sym, arith, ◌∙◌}
 use Rattle.wire.proofs.Stores.{no_entry}
 use Rattle.wire.proofs.put_entry.Goals as goal
 

@@ -3,11 +3,8 @@ use Prim.Native.Nat.{◌+◌, ◌-◌}
 use native.Mathlib.Omega.{arith}
 use Rattle.wire.specs.Varint.{groups}
 use Rattle.wire.proofs.Stores.{sets_out}
-use Rattle.wire.proofs.Groups.{not_last, stored_room, stores_on, stores_last, ten_left}
+use Rattle.wire.proofs.Groups.{not_last, stored_room, stores_on, stores_last}
 use Rattle.wire.proofs.put_varint.Goals as goal
-
-pub loop-p-init : goal.loop-p-init
-loop-p-init c = ten_left c.args.out.now c.args.at c.args.value (omega arith)
 
 pub returns-then-v-lt128 : goal.returns-then-v-lt128
 returns-then-v-lt128 c =

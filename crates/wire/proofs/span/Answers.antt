@@ -6,7 +6,7 @@ use Rattle.std.proofs.lemmas.Iterator.Consumers.{YieldsList-at}
 use Rattle.std.proofs.lemmas.Iterator.Search.{position_from_yields_List}
 use lib.ListN.{take}
 use Rattle.std.specs.List.{position}
-use Rattle.wire.proofs.Spans.{ends, length_to, span_to_last}
+use Rattle.wire.proofs.Spans.{ends, one_more, span_at_last}
 use Rattle.wire.proofs.span.Goals as goal
 use Rattle.wire.proofs.span.Goals.{After-position}
 
@@ -16,8 +16,9 @@ last_is c =
     (YieldsList-from_take 10 (YieldsList-at c.take.ensures.source (YieldsList-from_slice c.args.s.now cc)) c.take.ensures.count)
     (λ x b q k. search (rules, tests))
 
-pub returns-in-Some : goal.returns-in-Some
-returns-in-Some c = ap length_to (sym c.in-Some.is ∙ last_is (goal.at.returns-in-Some c).After-position) ∙ span_to_last 10 c.args.s.now
+pub returns-in_err-position : goal.returns-in_err-position
+returns-in_err-position c =
+    c.from_residual.ensures ∙ ap one_more (sym c.in_err-position.was ∙ last_is (goal.at.returns-in_err-position c).After-position) ∙ span_at_last c.args.s.now
 
-pub returns-in-None : goal.returns-in-None
-returns-in-None c = ap length_to (sym c.in-None.is ∙ last_is (goal.at.returns-in-None c).After-position) ∙ span_to_last 10 c.args.s.now
+pub returns : goal.returns
+returns c = ap one_more (sym c.in_ok-position.was ∙ last_is (goal.at.returns c).After-position) ∙ span_at_last c.args.s.now

@@ -1,4 +1,4 @@
-use Rattle.candidates.specs.declared.Chosen.{Chosen}
+use Rattle.candidates.specs.Selection.{Chosen}
 use mathlib.Core.Path.{ap}
 use Rattle.inbound.proofs.Answering.{made_plainly, started_silent}
 use Rattle.inbound.specs.Circuits.{answer_of}

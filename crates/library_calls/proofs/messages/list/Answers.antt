@@ -1,8 +1,5 @@
-use Rattle.std.proofs.Common.{sym, inl, ap, arith, length}
-use Rattle.std.proofs.lemmas.Iterator.Consumers.{YieldsList-from_rest, count_from_yields_List}
-use Rattle.wire.specs.Lists.{entries}
+use Rattle.std.proofs.Common.{inl, ap, arith, length}
 use Rattle.wire.proofs.EntryByEntry.{entries_few}
-use Rattle.library_calls.specs.Messages.{list_said}
 use Rattle.library_calls.proofs.messages.list.Goals as goal
 
 pub count-n-requires-clause-fits : goal.count-n-requires-clause-fits

@@ -1,8 +1,0 @@
-use mathlib.Core.Path.{◌≡◌}
-use lib.ListN.{drop}
-use Rattle.rows.specs.Rows.{find_in}
-use Rattle.rows.specs.Words.{rows_from}
-use Rattle.rows.proofs.find_from.Given as goal
-
-abbrev pub invariant-loop-i : goal.invariant-loop-i
-invariant-loop-i l = find_in l.key (rows_from l.b l.l) ≡ find_in l.key (drop l.i (rows_from l.b l.l))
