@@ -45,13 +45,21 @@ same_true (x ∷ a) (y ∷ b) e = by_test (eqb x y) refl (same_true a b) e
     by_test true u f v = let i : x ≡ y = eqb-true x y u in let j : a ≡ b = f v in cc
     by_test false u f v = let z : ◌≡◌ {A = ℕ} 0 1 = cc in absurd (omega arith)
 
+pub same_is : (a b : List ℕ) (r : Bool) → (r ≡ true → a ≡ b) → (a ≡ b → r ≡ true) → r ≡ same_bytes a b
+same_is a b true f g = rw (sym (f refl)) (sym (same_self a))
+same_is a b false f g = by_test (same_bytes a b) refl
+  where
+    by_test : (t : Bool) → same_bytes a b ≡ t → false ≡ t
+    by_test true e = g (same_true a b e)
+    by_test false e = refl
+
 -- `==` of two slices is `same_bytes`
-pub same_is : (a b : List ℕ) → pointwise nat_eq a b ≡ same_bytes a b
+pub slices_same : (a b : List ℕ) → pointwise nat_eq a b ≡ same_bytes a b
 unfolding same_bytes
-same_is [] [] = refl
-same_is [] (y ∷ b) = refl
-same_is (x ∷ a) [] = refl
-same_is (x ∷ a) (y ∷ b) = by_test (nat_eq x y) ∙ ap (both (nat_eq x y)) (same_is a b)
+slices_same [] [] = refl
+slices_same [] (y ∷ b) = refl
+slices_same (x ∷ a) [] = refl
+slices_same (x ∷ a) (y ∷ b) = by_test (nat_eq x y) ∙ ap (both (nat_eq x y)) (slices_same a b)
   where
     by_test : (t : Bool) → (t && pointwise nat_eq a b) ≡ both t (pointwise nat_eq a b)
     by_test true = refl

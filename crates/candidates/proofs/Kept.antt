@@ -44,6 +44,10 @@ unfolding bounded
 all_bounded l P f xs = all_kept l P f [] xs tt
 
 -- ---- sublists
+pub sub_refl : (xs : List (List ℕ)) → Sublist xs xs
+sub_refl [] = nil
+sub_refl (a ∷ xs) = stay (sub_refl xs)
+
 pub sub_trans : {xs ys zs : List (List ℕ)} → Sublist xs ys → Sublist ys zs → Sublist xs zs
 sub_trans p nil = p
 sub_trans p (skip q) = skip (sub_trans p q)

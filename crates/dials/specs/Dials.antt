@@ -1,7 +1,7 @@
 -- Dropping the dials of an attempt (RULES.md, section 10.4).
 -- ---- the live connections
 -- the peer to ask for: the relay of a relay dial, else the attempt's target
-use Rattle.std.specs.Prelude.{ℕ, Bool, true, false, List, [], ◌∷◌, ◌++◌, map, length, set, take, ◌+◌, eqb, None, Option, Some}
+use Rattle.std.specs.Prelude.{ℕ, Bool, true, false, List, [], ◌∷◌, ◌++◌, map, length, replicate, set, take, ◌+◌, eqb, None, Option, Some}
 use Rattle.prelude.specs.Lists.{padded}
 use Rattle.prelude.specs.Choice.{pick}
 use Rattle.ids.specs.declared.PeerId.{PeerId}
@@ -39,6 +39,10 @@ asked_of target row = asked_entry (entry_of row) target
 -- what is found for a row
 unfoldable pub first_for : PeerId → (PeerId → Option ConnectionId) → Row → Option ConnectionId
 first_for target first row = first (asked_of target row)
+
+-- nothing found for any row
+abbrev pub no_firsts : List (Option ConnectionId)
+no_firsts = replicate capacity None
 
 -- ---- what becomes of a dial
 unfoldable pub is_first : Option ConnectionId → ℕ → Bool

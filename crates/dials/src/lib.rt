@@ -5,7 +5,7 @@ ghost use Rattle.std.specs.Prelude.{◌≡◌, ◌<◌, []};
 ghost use Rattle.rows.specs.declared.Table.TheVariants.{Dials};
 ghost use Rattle.rows.specs.Rows.{capacity};
 ghost use Rattle.rows.specs.Words.{rows_of, laid};
-ghost use Rattle.dials.specs.Dials.{column_of, pushed, no_token, no_connection, asked_by, asked_of, is_first, fate_of, fate_at, stays, staying, each, pairs, left_of, retired_of, closed_of, abort_with};
+ghost use Rattle.dials.specs.Dials.{no_firsts, column_of, pushed, no_token, no_connection, asked_by, asked_of, is_first, fate_of, fate_at, stays, staying, each, pairs, left_of, retired_of, closed_of, abort_with};
 
 use ids::{ConnectId, ConnectionId, NatToken, PeerId};
 use kinds::{Entry, Row};
@@ -57,6 +57,13 @@ fn push<T: Copy>(column: &mut Column<T>, value: T)
 {
     column.values[column.count as usize] = value;
     column.count += 1;
+}
+
+// Nothing found for any row.
+pub fn no_firsts() -> Firsts
+    ensures { result ≡ no_firsts }
+{
+    [None; ROWS]
 }
 
 // The peer to ask for: the relay of a relay dial, else the attempt's target.

@@ -16,8 +16,8 @@ use Rattle.text.specs.Decimal.{decimal_of, decimal, digits_from}
 use Rattle.text.specs.Hexadecimal.{bytes_of, hexadecimal, digit_of, Bytes}
 use Rattle.text.proofs.Decimal.{number_read, read_digit}
 use Rattle.text.proofs.Hexadecimal.{bytes_read, bytes_taken}
-use Rattle.forms.specs.Forms.{kind_of, is_literal, opens, choice, words_of, maybe_words, pair_words, listed, is_good, Reading, Good, read_from, read_form}
-use Rattle.forms.specs.Texts.{Value, number, some, absent, pair, unpaired, bytes, word, value_text, first_text, text_from, text, kind_of_value, InRange, FirstFits, Either, FitsFrom, Fits, spaced, is_form_from, is_form, width, value_in, values_from, part, values_of}
+use Rattle.forms.specs.Forms.{kind_of, is_literal, opens, choice, words_of, maybe_words, pair_words, listed, is_good, Reading, Good, Bad, read_from, read_form}
+use Rattle.forms.specs.Texts.{Value, number, some, absent, pair, unpaired, bytes, word, value_text, first_text, text_from, text, kind_of_value, InRange, FirstFits, Either, FitsFrom, Fits, spaced, is_form_from, is_form, width, value_in, values_from, part, valued, values_of}
 use Rattle.forms.specs.declared.Kind.{Kind}
 use Rattle.forms.specs.declared.Kind.TheVariants as kind
 use Rattle.forms.specs.declared.Words.{Words}
@@ -295,6 +295,16 @@ all_bytes line start end b s h p = ap bytes_of p ∙ bytes_read (b ∷ s) h
 pub back : (form : List ℕ) (vs : List Value) → is_form form ≡ true → Fits form vs → values_of form (text form vs) ≡ Good vs
 unfolding values_of read_form text is_form Fits
 back form vs g h = let q = found (text_from false form vs) (get (text_from false form vs)) (no_bytes (text_from false form vs)) (all_bytes (text_from false form vs)) false form 0 vs g h refl in rw (q.1, q.2)
+
+-- what is read as values is read as words that stand for them
+pub values_read : (form line : List ℕ) (vs : List Value) → values_of form line ≡ Good vs
+    → (ws : List ℕ) × (read_form form line ≡ Good ws) × (values_from (get line) false form ws ≡ vs)
+unfolding values_of
+values_read form line vs = go (read_form form line) refl
+  where
+    go : (r : Reading (List ℕ)) → read_form form line ≡ r → valued form line r ≡ Good vs → (ws : List ℕ) × (read_form form line ≡ Good ws) × (values_from (get line) false form ws ≡ vs)
+    go (Good ws) e h = (ws, e, cc)
+    go Bad e h = let z : ◌≡◌ {A = ℕ} 0 1 = cc in absurd (omega arith)
 
 -- ---- bytes of which there are none start where they end
 

@@ -2,7 +2,9 @@
 use mathlib.Core.Path.{◌≡◌, refl, sym, ap, ◌∙◌}
 use mathlib.Core.List.{List, [], ◌∷◌, ◌++◌}
 use mathlib.Core.Bool.{Bool, true, false}
-use Prim.Native.Nat.{ℕ, ◌+◌, ◌≤◌}
+use Prim.Native.Nat.{ℕ, suc, ◌+◌, ◌≤◌}
+use borrow.Author.Tests.{eqb-true}
+use Rattle.text.proofs.Decimal.{begins_split}
 use Rattle.std.specs.Prelude.{None, Option, Some, ℕ}
 use native.Mathlib.Omega.{arith}
 use lib.Dec.{eqb, leb}
@@ -14,7 +16,7 @@ use Rattle.text.specs.Hexadecimal.{is_hexadecimal}
 use Rattle.text.specs.Printed.{printed, behind}
 use Rattle.text.proofs.Printing.{fits, fits_place}
 use Rattle.forms.specs.Forms.{kind_of, is_literal, opens, choice, split, words_of, number_words, some_words, maybe_words, both_words, pair_words, listed, is_good, Reading, Good, Bad, followed, read_from, read_form, is_read, words_from, Stored}
-use Rattle.forms.specs.Texts.{width, count_from}
+use Rattle.forms.specs.Texts.{width, count_from, spaces, spaces_from}
 use Rattle.forms.specs.declared.Kind.{Kind}
 use Rattle.forms.specs.declared.Kind.TheVariants as kind
 use Rattle.forms.specs.declared.Words.TheVariants as words
@@ -134,3 +136,65 @@ is_good_lem form line before after n e s c l = go (read_from false form 0 line) 
         let t : ws ≡ take n after = sym (fits before ws m) ∙ rw (p, g) in
         f ∙ ap Good t
     go Bad f e s = let z : ◌≡◌ {A = ℕ} 0 1 = cc in absurd (omega arith)
+
+-- ---- a line has its form's spaces and no other
+
+behind_value : (s : List ℕ) → spaces s ≡ spaces (drop (length_before 32 s) s)
+unfolding spaces length_before
+behind_value [] = refl
+behind_value (b ∷ s) = go (eqb b 32) refl (behind_value s)
+  where
+    go : (t : Bool) → eqb b 32 ≡ t → spaces s ≡ spaces (drop (length_before 32 s) s)
+        → pick t 1 0 + spaces s ≡ spaces (drop (pick t 0 (suc (length_before 32 s))) (b ∷ s))
+    go true e h = rw e
+    go false e h = omega arith
+
+value_is_no_space : (b : ℕ) → is_literal (kind_of b) ≡ false → eqb b 32 ≡ false
+unfolding kind_of
+value_is_no_space b h = go (eqb b 32) refl
+  where
+    go : (t : Bool) → eqb b 32 ≡ t → eqb b 32 ≡ false
+    go true e = let z : b ≡ 32 = eqb-true b 32 e in let y = rw z at h in let x : ◌≡◌ {A = ℕ} 0 1 = cc in absurd (omega arith)
+    go false e = e
+
+no_spaces : spaces [] ≡ 0
+unfolding spaces
+no_spaces = refl
+
+one_more : (b : ℕ) (s : List ℕ) → spaces (b ∷ s) ≡ pick (eqb b 32) 1 0 + spaces s
+unfolding spaces
+one_more b s = refl
+
+pub spaced_alike : (within : Bool) (form : List ℕ) (at : ℕ) (s ws : List ℕ) → read_from within form at s ≡ Good ws → spaces s ≡ spaces_from within form
+unfolding read_from spaces_from
+spaced_alike within [] at [] ws h = no_spaces
+spaced_alike within [] at (a ∷ s) ws h = let z : ◌≡◌ {A = ℕ} 0 1 = cc in absurd (omega arith)
+spaced_alike true (b ∷ form) at s ws h = spaced_alike (no (eqb b 41)) form at s ws h
+spaced_alike false (b ∷ form) at s ws h =
+    go (is_literal (kind_of b)) refl (λ t. spaced_alike false form (at + 1) t ws) (λ n t vs. spaced_alike (opens (kind_of b)) form n t vs) h
+  where
+    go : (t : Bool) → is_literal (kind_of b) ≡ t → ((t : List ℕ) → read_from false form (at + 1) t ≡ Good ws → spaces t ≡ spaces_from false form)
+        → ((n : ℕ) (t vs : List ℕ) → read_from (opens (kind_of b)) form n t ≡ Good vs → spaces t ≡ spaces_from (opens (kind_of b)) form)
+        → pick t (pick (begins (b ∷ []) s) (read_from false form (at + 1) (drop 1 s)) Bad)
+        (followed (words_of (kind_of b) (choice (kind_of b) form) (take (length_before 32 s) s) at (at + length_before 32 s))
+        (read_from (opens (kind_of b)) form (at + length_before 32 s) (drop (length_before 32 s) s))) ≡ Good ws
+        → spaces s ≡ pick (eqb b 32) 1 0 + spaces_from (opens (kind_of b)) form
+    go true e f g h = byte (begins (b ∷ []) s) refl h
+      where
+        byte : (t : Bool) → begins (b ∷ []) s ≡ t → pick t (read_from false form (at + 1) (drop 1 s)) Bad ≡ Good ws
+            → spaces s ≡ pick (eqb b 32) 1 0 + spaces_from (opens (kind_of b)) form
+        byte true d h = rw ((none_wide (kind_of b) e).1, ← f (drop 1 s) h) (ap spaces (begins_split (b ∷ []) s d) ∙ one_more b (drop 1 s))
+        byte false d h = let z : ◌≡◌ {A = ℕ} 0 1 = cc in absurd (omega arith)
+    go false e f g h =
+        let w = words_of (kind_of b) (choice (kind_of b) form) (take (length_before 32 s) s) at (at + length_before 32 s) in
+        let q = parted s w (read_from (opens (kind_of b)) form (at + length_before 32 s) (drop (length_before 32 s) s)) ws h in
+        rw (value_is_no_space b e) (omega (arith, behind_value s, g (at + length_before 32 s) (drop (length_before 32 s) s) q.1 q.2))
+
+-- so forms with other numbers of spaces have no line in common
+pub apart : (form other line ws : List ℕ) → (spaces_from false form ≡ spaces_from false other → ⊥) → read_form other line ≡ Good ws → read_form form line ≡ Bad
+unfolding read_form
+apart form other line ws n h = go (read_from false form 0 line) refl
+  where
+    go : (r : Reading (List ℕ)) → read_from false form 0 line ≡ r → read_from false form 0 line ≡ Bad
+    go (Good vs) e = absurd (n (sym (spaced_alike false form 0 line vs e) ∙ spaced_alike false other 0 line ws h))
+    go Bad e = e

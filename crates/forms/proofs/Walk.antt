@@ -191,15 +191,15 @@ module _ {form line before : List ℕ} {f i : ℕ} {got : List ℕ} {n : ℕ} (w
   unfolding words_from
   all_words = words ∙ rw (drop_of_length-le form hf, append-nil ws)
 
-  bytes_left : i < length line → (read_form form line ≡ Bad) × (words_from false form 0 line ≡ ws)
+  pub bytes_left : i < length line → (read_form form line ≡ Bad) × (words_from false form 0 line ≡ ws)
   unfolding read_from
   bytes_left h = (rest ∙ rw (drop_of_length-le form hf, at line i h), all_words)
 
-  whole : length line ≤ i → read_form form line ≡ Good ws
+  pub whole : length line ≤ i → read_form form line ≡ Good ws
   unfolding read_from
   whole h = rest ∙ rw (drop_of_length-le form hf, drop_of_length-le line h, append-nil ws)
 
-  all_read : length line ≤ i → (true ≡ is_read (read_form form line)) × Stored form line before got
+  pub all_read : length line ≤ i → (true ≡ is_read (read_form form line)) × Stored form line before got
   all_read h = (ap is_read (sym (whole h)), stored.bytes ∙ ap (printed before 0) (sym all_words))
 
   pub finished : i ≤ length line → (eqb i (length line) ≡ is_read (read_form form line)) × Stored form line before got

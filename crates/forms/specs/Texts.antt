@@ -141,6 +141,16 @@ count_from within [] = 0
 count_from true (b ∷ form) = count_from (no (eqb b 41)) form
 count_from false (b ∷ form) = width (kind_of b) + count_from (opens (kind_of b)) form
 
+-- how many spaces a text has, and a form outside of its words
+unfoldable pub spaces : List ℕ → ℕ
+spaces [] = 0
+spaces (b ∷ s) = pick (eqb b 32) 1 0 + spaces s
+
+unfoldable pub spaces_from : Bool → List ℕ → ℕ
+spaces_from within [] = 0
+spaces_from true (b ∷ form) = spaces_from (no (eqb b 41)) form
+spaces_from false (b ∷ form) = pick (eqb b 32) 1 0 + spaces_from (opens (kind_of b)) form
+
 -- the bytes of a text from a place up to another
 abbrev pub part : List ℕ → ℕ → ℕ → List ℕ
 part s start end = take (end - start) (drop start s)

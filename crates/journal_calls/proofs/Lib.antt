@@ -1,2 +1,2 @@
-mod Turning
+pub mod Turning
 pub mod Plain

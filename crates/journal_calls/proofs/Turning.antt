@@ -33,9 +33,10 @@ use Rattle.lent.specs.Calls.{up_of, tick_of, peeked}
 use Rattle.inbound.specs.Circuits.{decided_at}
 use Rattle.lent.proofs.Turned.{Whole, up_whole, tick_whole, input_whole}
 use Rattle.journal_calls.specs.declared.State.{State}
+use Rattle.journal_calls.specs.declared.Running.{Running}
 use Rattle.journal_calls.specs.declared.Turn.{Turn}
 use Rattle.journal_calls.specs.declared.Memory.{Memory}
-use Rattle.journal_calls.specs.Calls.{Journal, core_in, whole, Turned, turned, refused, saying, with_core, settled_in, Leaves, settled, up_turn, input_turn, expired, tick_turn}
+use Rattle.journal_calls.specs.Calls.{Journal, core_in, whole, Turned, turned, refused, saying, running, settled_in, Leaves, settled, up_turn, input_turn, expired, tick_turn}
 use Rattle.path.specs.declared.Attribution.{Attribution}
 
 -- ---- what a refused decision leaves
@@ -79,9 +80,12 @@ parts : {t u : Turn} {c c' a a' n n' w w' : List ℕ} {l l' : PathLedger} → t 
     → made t c a n w l ≡ made u c' a' n' w' l'
 parts e p q u v w = rw (e, p, q, u, v, w) refl
 
-module _ (s : State) (core : Core) (m : Memory) (long : length m.ledger ≡ ledger_words) where
+module _ (b : Running) (m : Memory) (long : length m.ledger ≡ ledger_words) where
+  abbrev core : Core
+  core = b.core
+
   abbrev at_circuit : State
-  at_circuit = with_core s core
+  at_circuit = running b
 
   abbrev j : Journal
   j = whole at_circuit m

@@ -27,6 +27,7 @@ use Rattle.inbound.specs.Circuits.{decided_at}
 use Rattle.questions.specs.Questions.{claim_of}
 use Rattle.journal_effects.specs.declared.Effects.{Effects}
 use Rattle.journal_calls.specs.declared.State.{State}
+use Rattle.journal_calls.specs.declared.Running.{Running}
 use Rattle.journal_calls.specs.declared.Memory.{Memory}
 use Rattle.journal_calls.specs.declared.Said.{Said}
 use Rattle.journal_calls.specs.declared.Turn.{Turn}
@@ -70,6 +71,14 @@ whole s m =
       words = m.ledger;
       sent = m.sent;
     }
+
+-- the journal's numbers while it has a circuit
+abbrev pub running : Running → State
+running r = record { n = r.n; settings = r.settings; core = Some r.core }
+
+-- the memory of these parts
+abbrev pub memory_of : (connect targets sent words : List ℕ) → Memory
+memory_of connect targets sent words = record { connect = connect; targets = targets; sent = sent; ledger = words }
 
 -- what the memory is before the first line
 abbrev pub blank_memory : Memory

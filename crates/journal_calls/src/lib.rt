@@ -1,11 +1,11 @@
-// What the calls of a journal's lines do. The journal's numbers go in by value and come back with what is to be said; its memory is lent, and
-// so is the reply buffer.
+// What the calls of a journal's lines do. The journal's numbers go in by value and come back with what is to be said; what a call touches of
+// its memory is lent, and so is the reply buffer.
 #![tactic(auto)]
 
-ghost use Rattle.std.specs.Prelude.{◌≡◌};
+ghost use Rattle.std.specs.Prelude.{◌≡◌, ℕ, List};
 ghost use Rattle.ledger.specs.Ledger.{tables_of, laid, empty_ledger};
 ghost use Rattle.circuit.specs.Calls.{wrote_of, down_of};
-ghost use Rattle.journal_calls.specs.Calls.{whole, turned, blank_memory, with_core, no_effects, saying, effects_of, settled_in, start_turn, up_turn, input_turn, tick_turn, dial_turn, forget_turn, attribute_turn, expired, claim_for};
+ghost use Rattle.journal_calls.specs.Calls.{whole, turned, memory_of, blank_memory, running, with_core, no_effects, saying, effects_of, settled_in, start_turn, up_turn, input_turn, tick_turn, dial_turn, forget_turn, attribute_turn, expired, claim_for};
 
 use candidates::Chosen;
 use circuit::decision;
@@ -30,6 +30,26 @@ pub struct State {
     pub settings: Settings,
     // None before a start was accepted.
     pub core: Option<Core>,
+}
+
+// The journal's numbers while it has a circuit, which all calls but start, dial and forget need.
+#[derive(Clone, Copy)]
+pub struct Running {
+    pub n: u64,
+    pub settings: Settings,
+    pub core: Core,
+}
+
+impl Running {
+    fn state(self) -> State
+        ensures { result ≡ running self }
+    {
+        State {
+            n: self.n,
+            settings: self.settings,
+            core: Some(self.core),
+        }
+    }
 }
 
 // What the journal keeps in place: the bytes of the circuit's CONNECT and of its targets, the message that goes out, and the ledger.
@@ -150,57 +170,52 @@ fn settle(j: State, d: Decision) -> Turn
 #[tactic(auto, unfolding(crate::specs::Calls::start_turn, crate::specs::Calls::started, crate::specs::Calls::silent, crate::specs::Calls::refused, crate::specs::Calls::saying))]
 pub fn start_turn(
     j: State,
-    m: &mut Memory,
+    connect: &mut FrameBytes,
+    targets: &mut TargetBytes,
     at: u64,
     source: PeerId,
     relay: PeerId,
     circuit: ConnectionId,
 ) -> Turn
-    ensures { turned result m.new ≡ start_turn (whole j m.old) at source relay circuit }
+    ensures { (sent words : List ℕ) → turned result (memory_of connect.new targets.new sent words) ≡ start_turn (whole j (memory_of connect.old targets.old sent words)) at source relay circuit }
 {
     let d = Core::new(source, relay, circuit, j.settings, at);
     match d.outcome {
         Err(why) => say(j, Said::Refused(why)),
         Ok(()) => {
-            lent::calls::clear(&mut m.connect, &mut m.targets);
+            lent::calls::clear(connect, targets);
             say(with_core(j, d.core), Said::Effects)
         }
     }
 }
 
-// The other calls of a circuit are made on the journal with this one.
 pub fn up_turn(
-    j: State,
-    core: Core,
-    m: &mut Memory,
+    j: Running,
+    connect: &mut FrameBytes,
+    sent: &mut FrameBytes,
+    ledger: &mut Ledger,
     host: Host,
     own: &[u8],
     peer: PeerId,
     conn: ConnectionId,
     circuit: bool,
 ) -> Turn
-    ensures { turned result m.new ≡ up_turn (whole (with_core j core) m.old) host own.now peer conn circuit }
+    ensures { (targets : List ℕ) → turned result (memory_of connect.new targets sent.new ledger.new) ≡ up_turn (whole (running j) (memory_of connect.old targets sent.old ledger.old)) host own.now peer conn circuit }
 {
-    rows::known(&m.ledger);
+    rows::known(ledger);
     let d = lent::calls::on_connection_established(
-        core,
-        &mut m.connect,
-        &mut m.sent,
-        &mut m.ledger,
-        host,
-        own,
-        peer,
-        conn,
-        circuit,
+        j.core, connect, sent, ledger, host, own, peer, conn, circuit,
     );
-    settle(with_core(j, core), d)
+    settle(j.state(), d)
 }
 
 #[tactic(auto, unfolding(crate::specs::Calls::input_turn))]
 pub fn input_turn(
-    j: State,
-    core: Core,
-    m: &mut Memory,
+    j: Running,
+    connect: &mut FrameBytes,
+    targets: &mut TargetBytes,
+    sent: &mut FrameBytes,
+    ledger: &mut Ledger,
     reply: &mut [u8],
     host: Host,
     own: &[u8],
@@ -209,25 +224,14 @@ pub fn input_turn(
     bytes: &[u8],
     pending: bool,
 ) -> Turn
-    ensures turn { turned result m.new ≡ (input_turn (whole (with_core j core) m.old) host own.now reply.old stream kind bytes.now pending).turn }
-    ensures reply { reply.new ≡ (input_turn (whole (with_core j core) m.old) host own.now reply.old stream kind bytes.now pending).reply }
+    ensures turn { turned result (memory_of connect.new targets.new sent.new ledger.new) ≡ (input_turn (whole (running j) (memory_of connect.old targets.old sent.old ledger.old)) host own.now reply.old stream kind bytes.now pending).turn }
+    ensures reply { reply.new ≡ (input_turn (whole (running j) (memory_of connect.old targets.old sent.old ledger.old)) host own.now reply.old stream kind bytes.now pending).reply }
 {
-    rows::known(&m.ledger);
+    rows::known(ledger);
     let d = lent::calls::on_dcutr_stream_input(
-        core,
-        &mut m.connect,
-        &mut m.targets,
-        &mut m.sent,
-        &mut m.ledger,
-        reply,
-        host,
-        own,
-        stream,
-        kind,
-        bytes,
-        pending,
+        j.core, connect, targets, sent, ledger, reply, host, own, stream, kind, bytes, pending,
     );
-    settle(with_core(j, core), d)
+    settle(j.state(), d)
 }
 
 // The ledger ticks behind the circuit, where the circuit's tick is accepted.
@@ -242,53 +246,57 @@ fn expire(outcome: Result<(), Refusal>, ledger: &mut Ledger, at: u64)
     }
 }
 
-pub fn tick_turn(j: State, core: Core, m: &mut Memory, host: Host, own: &[u8]) -> Turn
-    ensures { turned result m.new ≡ tick_turn (whole (with_core j core) m.old) host own.now }
+pub fn tick_turn(
+    j: Running,
+    connect: &mut FrameBytes,
+    sent: &mut FrameBytes,
+    ledger: &mut Ledger,
+    host: Host,
+    own: &[u8],
+) -> Turn
+    ensures { (targets : List ℕ) → turned result (memory_of connect.new targets sent.new ledger.new) ≡ tick_turn (whole (running j) (memory_of connect.old targets sent.old ledger.old)) host own.now }
 {
-    rows::known(&m.ledger);
-    let d = lent::calls::on_tick(core, &mut m.connect, &mut m.sent, &mut m.ledger, host, own);
-    expire(d.outcome, &mut m.ledger, host.at);
-    settle(with_core(j, core), d)
+    rows::known(ledger);
+    let d = lent::calls::on_tick(j.core, connect, sent, ledger, host, own);
+    expire(d.outcome, ledger, host.at);
+    settle(j.state(), d)
 }
 
 // A write and a lost connection leave the memory as it is.
-pub fn wrote_turn(j: State, core: Core, at: u64, conn: ConnectionId, stream: StreamId) -> Turn
-    ensures { result ≡ settled_in (with_core j core) (wrote_of core at conn stream) (wrote_of core at conn stream).outcome }
+pub fn wrote_turn(j: Running, at: u64, conn: ConnectionId, stream: StreamId) -> Turn
+    ensures { result ≡ settled_in (running j) (wrote_of j.core at conn stream) (wrote_of j.core at conn stream).outcome }
 {
-    settle(
-        with_core(j, core),
-        core.on_write_completed(at, conn, stream),
-    )
+    settle(j.state(), j.core.on_write_completed(at, conn, stream))
 }
 
-pub fn down_turn(j: State, core: Core, conn: ConnectionId) -> Turn
-    ensures { result ≡ settled_in (with_core j core) (down_of core conn) (down_of core conn).outcome }
+pub fn down_turn(j: Running, conn: ConnectionId) -> Turn
+    ensures { result ≡ settled_in (running j) (down_of j.core conn) (down_of j.core conn).outcome }
 {
-    settle(with_core(j, core), core.on_connection_closed(conn))
+    settle(j.state(), j.core.on_connection_closed(conn))
 }
 
 #[tactic(auto, unfolding(crate::specs::Calls::dial_turn, crate::specs::Calls::silent, crate::specs::Calls::refused, crate::specs::Calls::saying), using(crate::proofs::Turning::undialed, ledger::proofs::Laws::laid_same))]
 pub fn dial_turn(
     j: State,
-    m: &mut Memory,
+    ledger: &mut Ledger,
     conn: ConnectionId,
     token: NatToken,
     id: ConnectId,
 ) -> Turn
-    ensures { turned result m.new ≡ dial_turn (whole j m.old) conn token id }
+    ensures { (connect targets sent : List ℕ) → turned result (memory_of connect targets sent ledger.new) ≡ dial_turn (whole j (memory_of connect targets sent ledger.old)) conn token id }
 {
-    rows::known(&m.ledger);
-    match ledger::dial_started(&mut m.ledger, conn, token, DialPurpose::Punch(id)) {
+    rows::known(ledger);
+    match ledger::dial_started(ledger, conn, token, DialPurpose::Punch(id)) {
         Err(why) => say(j, Said::Refused(why)),
         Ok(()) => say(j, Said::Effects),
     }
 }
 
 #[tactic(auto, unfolding(crate::specs::Calls::forget_turn, crate::specs::Calls::silent, crate::specs::Calls::saying))]
-pub fn forget_turn(j: State, m: &mut Memory, conn: ConnectionId) -> Turn
-    ensures { turned result m.new ≡ forget_turn (whole j m.old) conn }
+pub fn forget_turn(j: State, ledger: &mut Ledger, conn: ConnectionId) -> Turn
+    ensures { (connect targets sent : List ℕ) → turned result (memory_of connect targets sent ledger.new) ≡ forget_turn (whole j (memory_of connect targets sent ledger.old)) conn }
 {
-    ledger::forget(&mut m.ledger, conn);
+    ledger::forget(ledger, conn);
     say(j, Said::Effects)
 }
 
@@ -305,20 +313,19 @@ fn claim_for(c: Core, conn: ConnectionId, circuit: bool) -> Option<Claim>
 
 #[tactic(auto, unfolding(crate::specs::Calls::attribute_turn, crate::specs::Calls::naming, crate::specs::Calls::refused, crate::specs::Calls::saying), using(crate::proofs::Turning::unnamed, ledger::proofs::Laws::laid_same))]
 pub fn attribute_turn(
-    j: State,
-    core: Core,
-    m: &mut Memory,
+    j: Running,
+    ledger: &mut Ledger,
     at: u64,
     peer: PeerId,
     conn: ConnectionId,
     circuit: bool,
 ) -> Turn
-    ensures { turned result m.new ≡ attribute_turn (whole (with_core j core) m.old) at peer conn circuit }
+    ensures { (connect targets sent : List ℕ) → turned result (memory_of connect targets sent ledger.new) ≡ attribute_turn (whole (running j) (memory_of connect targets sent ledger.old)) at peer conn circuit }
 {
-    rows::known(&m.ledger);
-    let state = with_core(j, core);
-    let claim = claim_for(core, conn, circuit);
-    match ledger::attribute(&mut m.ledger, conn, peer, circuit, claim, at) {
+    rows::known(ledger);
+    let state = j.state();
+    let claim = claim_for(j.core, conn, circuit);
+    match ledger::attribute(ledger, conn, peer, circuit, claim, at) {
         Ok(found) => say(state, Said::Attributed(found)),
         Err(why) => say(state, Said::Refused(why)),
     }

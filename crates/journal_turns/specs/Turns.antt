@@ -11,9 +11,16 @@ use Rattle.journal_lines.specs.Lines.{line_of}
 use Rattle.journal_lines.specs.declared.Digits.{Digits}
 use Rattle.journal_lines.specs.declared.Line.{Line}
 use Rattle.journal_lines.specs.declared.Line.TheVariants.{Start, Up, Input, Tick, Wrote, Down, Dial, Forget, Attribute}
+use Rattle.circuit.specs.declared.state.Core.{Core}
+use Rattle.journal_calls.specs.declared.State.{State}
+use Rattle.journal_calls.specs.declared.Running.{Running}
 use Rattle.journal_calls.specs.Calls.{Journal, Turned, refused, start_turn, up_turn, Taken, input_turn, tick_turn, wrote_turn, down_turn, dial_turn, forget_turn, attribute_turn}
 use Rattle.ids.specs.declared.ConnectionId.{ConnectionId}
 use Rattle.ids.specs.declared.StreamId.{StreamId}
+
+-- the journal's numbers with its circuit
+abbrev pub running_in : State → Core → Running
+running_in s c = record { n = s.n; settings = s.settings; core = c }
 
 -- ---- what a line hands to its call (section 12.5)
 

@@ -5,12 +5,12 @@
 ghost use Rattle.std.specs.Prelude.{◌≡◌, ◌<◌, ◌*◌, ◌≤◌, length, take, Some};
 ghost use Rattle.text.specs.Printed.{printed, behind};
 ghost use Rattle.lines.specs.Lines.{longest};
-ghost use Rattle.journal_calls.specs.Calls.{whole, with_core, state_of, turned, new_journal, up_turn, input_turn, tick_turn};
-ghost use Rattle.journal_turns.specs.Turns.{digits_bytes, IsRoom, turn_of, line_turn};
+ghost use Rattle.journal_calls.specs.Calls.{whole, running, state_of, turned, new_journal, up_turn, input_turn, tick_turn};
+ghost use Rattle.journal_turns.specs.Turns.{digits_bytes, IsRoom, running_in, turn_of, line_turn};
 
 use circuit::state::Core;
 use ids::{ConnectionId, PeerId, StreamId};
-use journal_calls::{Memory, Said, State, Turn};
+use journal_calls::{Memory, Running, Said, State, Turn};
 use journal_lines::{Digits, Line};
 use refusal::Refusal;
 use vocabulary::{Host, Settings, StreamInput};
@@ -26,6 +26,16 @@ pub fn new_journal(settings: Settings) -> State
         n: 0,
         settings,
         core: None,
+    }
+}
+
+fn running_in(j: State, core: Core) -> Running
+    ensures { result ≡ running_in j core }
+{
+    Running {
+        n: j.n,
+        settings: j.settings,
+        core,
     }
 }
 
@@ -52,8 +62,7 @@ fn read_digits(line: &[u8], digits: Digits, out: &mut [u8]) -> usize
 
 fn up_line<const N: usize>(
     line: &[u8],
-    j: State,
-    core: Core,
+    j: Running,
     m: &mut Memory,
     host: Host,
     own: Digits,
@@ -62,17 +71,26 @@ fn up_line<const N: usize>(
     circuit: bool,
 ) -> Turn
     requires { IsRoom N line.now }
-    ensures { turned result m.new ≡ up_turn (whole (with_core j core) m.old) host (digits_bytes line.now own) peer conn circuit }
+    ensures { turned result m.new ≡ up_turn (whole (running j) m.old) host (digits_bytes line.now own) peer conn circuit }
 {
     let mut list = [0u8; N];
     let n = read_digits(line, own, &mut list);
-    journal_calls::up_turn(j, core, m, host, &list[..n], peer, conn, circuit)
+    journal_calls::up_turn(
+        j,
+        &mut m.connect,
+        &mut m.sent,
+        &mut m.ledger,
+        host,
+        &list[..n],
+        peer,
+        conn,
+        circuit,
+    )
 }
 
 fn input_line<const N: usize>(
     line: &[u8],
-    j: State,
-    core: Core,
+    j: Running,
     m: &mut Memory,
     reply: &mut [u8],
     host: Host,
@@ -83,8 +101,8 @@ fn input_line<const N: usize>(
     pending: bool,
 ) -> Turn
     requires { IsRoom N line.now }
-    ensures turn { turned result m.new ≡ (input_turn (whole (with_core j core) m.old) host (digits_bytes line.now own) reply.old stream kind (digits_bytes line.now bytes) pending).turn }
-    ensures reply { reply.new ≡ (input_turn (whole (with_core j core) m.old) host (digits_bytes line.now own) reply.old stream kind (digits_bytes line.now bytes) pending).reply }
+    ensures turn { turned result m.new ≡ (input_turn (whole (running j) m.old) host (digits_bytes line.now own) reply.old stream kind (digits_bytes line.now bytes) pending).turn }
+    ensures reply { reply.new ≡ (input_turn (whole (running j) m.old) host (digits_bytes line.now own) reply.old stream kind (digits_bytes line.now bytes) pending).reply }
 {
     let mut list = [0u8; N];
     let n = read_digits(line, own, &mut list);
@@ -92,8 +110,10 @@ fn input_line<const N: usize>(
     let k = read_digits(line, bytes, &mut heard);
     journal_calls::input_turn(
         j,
-        core,
-        m,
+        &mut m.connect,
+        &mut m.targets,
+        &mut m.sent,
+        &mut m.ledger,
         reply,
         host,
         &list[..n],
@@ -106,18 +126,24 @@ fn input_line<const N: usize>(
 
 fn tick_line<const N: usize>(
     line: &[u8],
-    j: State,
-    core: Core,
+    j: Running,
     m: &mut Memory,
     host: Host,
     own: Digits,
 ) -> Turn
     requires { IsRoom N line.now }
-    ensures { turned result m.new ≡ tick_turn (whole (with_core j core) m.old) host (digits_bytes line.now own) }
+    ensures { turned result m.new ≡ tick_turn (whole (running j) m.old) host (digits_bytes line.now own) }
 {
     let mut list = [0u8; N];
     let n = read_digits(line, own, &mut list);
-    journal_calls::tick_turn(j, core, m, host, &list[..n])
+    journal_calls::tick_turn(
+        j,
+        &mut m.connect,
+        &mut m.sent,
+        &mut m.ledger,
+        host,
+        &list[..n],
+    )
 }
 
 // ---- a line
@@ -145,7 +171,15 @@ fn make_call<const N: usize>(
                 circuit,
             },
             _,
-        ) => journal_calls::start_turn(j, m, at, source, relay, circuit),
+        ) => journal_calls::start_turn(
+            j,
+            &mut m.connect,
+            &mut m.targets,
+            at,
+            source,
+            relay,
+            circuit,
+        ),
         (_, None) => journal_calls::say(j, Said::Refused(Refusal::NotStarted)),
         (
             Line::Up {
@@ -161,8 +195,7 @@ fn make_call<const N: usize>(
             Some(core),
         ) => up_line::<N>(
             line,
-            j,
-            core,
+            running_in(j, core),
             m,
             Host { at, live, offer },
             own,
@@ -184,8 +217,7 @@ fn make_call<const N: usize>(
             Some(core),
         ) => input_line::<N>(
             line,
-            j,
-            core,
+            running_in(j, core),
             m,
             reply,
             Host { at, live, offer },
@@ -203,11 +235,13 @@ fn make_call<const N: usize>(
                 own,
             },
             Some(core),
-        ) => tick_line::<N>(line, j, core, m, Host { at, live, offer }, own),
+        ) => tick_line::<N>(line, running_in(j, core), m, Host { at, live, offer }, own),
         (Line::Wrote { at, conn, stream }, Some(core)) => {
-            journal_calls::wrote_turn(j, core, at, conn, stream)
+            journal_calls::wrote_turn(running_in(j, core), at, conn, stream)
         }
-        (Line::Down { conn, .. }, Some(core)) => journal_calls::down_turn(j, core, conn),
+        (Line::Down { conn, .. }, Some(core)) => {
+            journal_calls::down_turn(running_in(j, core), conn)
+        }
         (
             Line::Dial {
                 conn,
@@ -216,8 +250,10 @@ fn make_call<const N: usize>(
                 ..
             },
             Some(_),
-        ) => journal_calls::dial_turn(j, m, conn, token, id),
-        (Line::Forget { conn, .. }, Some(_)) => journal_calls::forget_turn(j, m, conn),
+        ) => journal_calls::dial_turn(j, &mut m.ledger, conn, token, id),
+        (Line::Forget { conn, .. }, Some(_)) => {
+            journal_calls::forget_turn(j, &mut m.ledger, conn)
+        }
         (
             Line::Attribute {
                 at,
@@ -226,7 +262,14 @@ fn make_call<const N: usize>(
                 circuit,
             },
             Some(core),
-        ) => journal_calls::attribute_turn(j, core, m, at, peer, conn, circuit),
+        ) => journal_calls::attribute_turn(
+            running_in(j, core),
+            &mut m.ledger,
+            at,
+            peer,
+            conn,
+            circuit,
+        ),
     }
 }
 

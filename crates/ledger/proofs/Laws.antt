@@ -148,3 +148,13 @@ module _ (ws : List ℕ) (h : length ws ≡ ledger_words) (p : Row → Bool) whe
 
     pub windows_such : out ≡ words.laid Windows (such p (rows_of Windows ws)) ws → (tables_of out ≡ with_windows (tables_of ws) (such p (rows_of Windows ws))) × (out ≡ laid (with_windows (tables_of ws) (such p (rows_of Windows ws))) ws)
     windows_such f = (ap tables_of f ∙ windows_tables ws h (such p (rows_of Windows ws)) (such_64 (start_of Windows)), f ∙ windows_words ws h (such p (rows_of Windows ws)) (such_64 (start_of Windows)))
+
+-- ---- the law: tables that are laid are those of the words
+pub tables_laid : (ws : List ℕ) → length ws ≡ ledger_words → (l : PathLedger) → length l.dials ≤ 64 → length l.windows ≤ 64 → length l.paths ≤ 64 → tables_of (laid l ws) ≡ l
+unfolding laid
+tables_laid ws h l d w p =
+    let w1 = words.laid Paths l.paths ws in
+    let n1 : length w1 ≡ ledger_words = laid_length (start_of Paths) ws (omega arith) l.paths p ∙ h in
+    let w2 = words.laid Windows l.windows w1 in
+    let n2 : length w2 ≡ ledger_words = laid_length (start_of Windows) w1 (omega arith) l.windows w ∙ n1 in
+    dials_tables w2 n2 l.dials d ∙ ap (λ (x : PathLedger). with_dials x l.dials) (windows_tables w1 n1 l.windows w ∙ ap (λ (x : PathLedger). with_windows x l.windows) (paths_tables ws h l.paths p))

@@ -1,7 +1,7 @@
 -- Records read and numbers written, one at a time. Assumes nothing.
 use mathlib.Core.Path.{◌≡◌, refl, sym, ap, ◌∙◌}
 use mathlib.Core.List.{List, [], ◌∷◌, ◌++◌}
-use Prim.Native.Nat.{ℕ, ◌+◌, ◌*◌, ◌/◌, ◌%◌, ◌^◌, ◌<◌, ◌≤◌, min}
+use Prim.Native.Nat.{ℕ, zero, suc, ◌+◌, ◌*◌, ◌/◌, ◌%◌, ◌^◌, ◌<◌, ◌≤◌, min}
 use native.Mathlib.Numerals.{add-one}
 use native.Mathlib.Omega.{arith}
 use lib.ListN.{length, take, drop, set, get_or, drop_of_length-le, length-append, length-replicate, length-take, take-append-drop}
@@ -61,6 +61,12 @@ numbers_more p q whole ns i h = printed_on p q whole (octets (get_or ns i 0)) (n
 pub numbers_none : (ns : List ℕ) (i : ℕ) → length ns ≤ i → numbers_bytes (drop i ns) ≡ []
 unfolding each
 numbers_none ns i h = rw (drop_of_length-le ns h)
+
+-- numbers of 8 bytes each
+numbers_length : (f : ℕ → List ℕ) → ((k : ℕ) → length (f k) ≡ 8) → (n : ℕ) → length (up_to f n) ≡ 8 * n
+unfolding up_to
+numbers_length f g zero = refl
+numbers_length f g (suc n) = omega (arith, length-append (up_to f n) (f n), g n, numbers_length f g n)
 
 -- ---- what an abort answers
 

@@ -12,7 +12,6 @@ ghost use Rattle.live_dials.specs.Asking.{asked_rows};
 use dials::{Dropped, Firsts};
 use ids::{ConnectId, ConnectionId, PeerId};
 use rows::{Ledger, ROWS, Table};
-use std::array;
 
 // A live connection of a peer.
 #[derive(Clone, Copy)]
@@ -43,7 +42,11 @@ pub fn first_lives(live: &[Live], asked: Asked) -> Firsts
 pub fn asked_rows(l: &Ledger, target: PeerId) -> Asked
     ensures { result ≡ asked_rows (rows_of Dials l.now) target }
 {
-    array::from_fn(|k| dials::asked_of(rows::row_at(l, Table::Dials, k), target))
+    let mut asked = [target; ROWS];
+    for k in 0..rows::used(l, Table::Dials) {
+        asked[k] = dials::asked_of(rows::row_at(l, Table::Dials, k), target);
+    }
+    asked
 }
 
 // Drops the dials of the attempt that connects to the target. A dial whose connection is its peer's first live one is not closed; a

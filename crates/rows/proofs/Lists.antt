@@ -160,6 +160,22 @@ pub marks_such : (p : Row → Bool) (rs : List Row) → marked (marks_by p rs) r
 unfolding marks_by
 marks_such p rs = marked_by p rs _
 
+-- an array of 64 places that a loop fills from the front: one more value
+pub map_more : {A B : Type 0} (f : A → B) (z : B) (xs : List A) (i : ℕ) (d : A) → i < length xs → i < 64
+    → set (map f (take i xs) ++ replicate (64 - i) z) i (f (get_or xs i d)) ≡ map f (take (i + 1) xs) ++ replicate (64 - (i + 1)) z
+map_more f z xs i d h k =
+    let q : 64 - i ≡ suc (64 - (i + 1)) = omega arith in
+    let n : length (map f (take i xs)) ≡ i = length-map (take i xs) f ∙ length-take-le i xs (omega arith) in
+    let m : map f (take (i + 1) xs) ≡ map f (take i xs) ++ (f (get_or xs i d) ∷ []) = rw (add-one, take-suc xs i d h) (map-append f (take i xs) (get_or xs i d ∷ [])) in
+    rw (q, m) (set_at (map f (take i xs)) z (replicate (64 - (i + 1)) z) (f (get_or xs i d)) i n ∙ sym (append_assoc (map f (take i xs)) (f (get_or xs i d) ∷ []) (replicate (64 - (i + 1)) z)))
+
+-- and after the last
+pub map_all : {A B : Type 0} (f : A → B) (z : B) (xs : List A) (i : ℕ) → i ≡ length xs → map f (take i xs) ++ replicate (64 - i) z ≡ padded 64 z (map f xs)
+map_all f z xs i e =
+    let t : take i xs ≡ xs = take_all i xs (omega arith) in
+    let m : length (map f xs) ≡ i = length-map xs f ∙ sym e in
+    rw (t, m) refl
+
 -- ---- rows of other keys, on either side of the key
 module _ (k : ℕ) where
   pub below_others : (rs : List Row) → kept (Below k) (kept (Other k) rs) ≡ kept (Below k) rs

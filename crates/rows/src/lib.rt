@@ -11,7 +11,6 @@ ghost use Rattle.rows.specs.declared.Table.TheVariants.{Paths};
 ghost use Rattle.rows.specs.Words.{at, no_row, start_of, ledger_words, places_of, rows_from, rows_of, tabled, filled, brought, divided, count_word, laid_from, laid, entered};
 
 use kinds::{Entry, Row};
-use std::array;
 
 // How many rows a table has room for.
 pub const ROWS: usize = 64;
@@ -234,7 +233,10 @@ pub fn find(l: &Ledger, table: Table, key: u64) -> Option<Entry>
 pub fn is_crowded(l: &Ledger, table: Table, key: u64) -> bool
     ensures { result ≡ crowded key (rows_of table l.now) }
 {
-    used(l, table) == ROWS && find(l, table, key).is_none()
+    if used(l, table) < ROWS {
+        return false;
+    }
+    find(l, table, key).is_none()
 }
 
 // The row in its place; one of its own key gives way. False, and no change, where it would be the 65th. The rows of its key go; the others
@@ -259,8 +261,11 @@ pub fn insert(l: &mut Ledger, table: Table, row: Row) -> bool
 fn marks_of(l: &Ledger, table: Table, keep: Keep) -> Marks
     ensures { result ≡ marks_by (keeps_row keep) (rows_of table l.now) }
 {
-    let n = used(l, table);
-    array::from_fn(|i| i < n && keeps(keep, read(l, table, i)))
+    let mut marks = [false; ROWS];
+    for i in 0..used(l, table) {
+        marks[i] = keeps(keep, read(l, table, i));
+    }
+    marks
 }
 
 // The rows that are kept.

@@ -7,6 +7,7 @@ ghost use Rattle.time.specs.Time.{plus};
 // The largest time.
 pub const LAST: u64 = u64::MAX;
 
+#[tactic(auto, unfolding(crate::specs::Time::plus))]
 pub fn saturating_add(a: u64, b: u64) -> u64
     ensures { result ≡ plus a b }
 {

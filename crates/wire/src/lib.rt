@@ -134,7 +134,7 @@ pub fn decode_frame(buffer: &[u8], count: usize) -> Frame
 // ---- Address lists
 
 // The address that stands first in a list, and what follows it; nothing at the end or a break.
-fn first_entry(list: &[u8]) -> Option<(&[u8], &[u8])>
+pub fn first_entry(list: &[u8]) -> Option<(&[u8], &[u8])>
     ensures { option_map (λ p. (p.0.now, p.1.now)) result ≡ first_entry list.now }
 {
     let (size, rest) = list.split_first_chunk::<2>()?;

@@ -1,31 +1,27 @@
-use Prim.Native.Nat.{◌≤◌}
-use mathlib.Core.Path.{◌≡◌, refl, sym, subst, ◌∙◌}
-use mathlib.Core.List.{map}
+use mathlib.Core.Path.{◌≡◌, refl, ap, ◌∙◌}
 use native.Mathlib.Omega.{arith}
-use lib.ListN.{length, length-map, get_or, get_or-map}
-use Rattle.std.proofs.Common.{rules}
-use Rattle.ids.specs.declared.PeerId.{PeerId}
+use lib.ListN.{get_or}
 use Rattle.rows.specs.declared.Table.TheVariants.{Dials}
 use Rattle.rows.specs.Words.{rows_of, no_row}
-use Rattle.rows.proofs.Words.{used_is}
-use Rattle.kinds.specs.Kinds.{entry_of}
+use Rattle.rows.proofs.Lists.{map_more, map_all}
 use Rattle.dials.specs.Dials.{asked_of}
-use Rattle.rows.proofs.Arrays.{made_padded}
 use Rattle.live_dials.specs.Asking.{asked_rows}
 use Rattle.live_dials.proofs.asked_rows.Goals as goal
 
--- no row asks for the target
-no_row_asks : (target : PeerId) → asked_of target no_row ≡ target
-unfolding asked_of entry_of
-no_row_asks target = refl
+pub loop-k-init : goal.loop-k-init
+loop-k-init c = refl
+
+pub loop-k-preserved : goal.loop-k-preserved
+loop-k-preserved c =
+    let g = c.args in
+    let x = c.loop-k in
+    let rs = rows_of Dials g.l.now in
+    let e : c.asked_of.result ≡ asked_of g.target (get_or rs x.k no_row) = c.asked_of.ensures ∙ ap (asked_of g.target) c.row_at.ensures in
+    rw (x.invariant, e) (map_more (asked_of g.target) g.target rs x.k no_row (omega arith) (omega arith))
 
 pub returns : goal.returns
 unfolding asked_rows
 returns c =
-    let t = c.args.target in
-    let w = c.args.l.now in
-    let rs = rows_of Dials w in
-    let n : length (map (asked_of t) rs) ≤ 64 = simp length-map (omega (arith, used_is 0 w)) in
-    made_padded t (map (asked_of t) rs) _ c.from_fn.result 64 n c.from_fn.ensures.items (λ i y q l k.
-    let s : y ≡ asked_of t (get_or rs i no_row) = search rules in
-    (search rules, s ∙ subst (λ (p : PeerId). asked_of t (get_or rs i no_row) ≡ get_or (map (asked_of t) rs) i p) (no_row_asks t) (sym (get_or-map (asked_of t) rs i no_row))))
+    let g = c.args in
+    let x = c.loop-k in
+    x.invariant ∙ map_all (asked_of g.target) g.target (rows_of Dials g.l.now) x.k (omega arith)

@@ -1,8 +1,8 @@
 use mathlib.Core.Path.{◌≡◌, refl, ap, sym, ◌∙◌}
-use Prim.Native.Nat.{ℕ}
+use Prim.Native.Nat.{ℕ, ◌<◌}
 use mathlib.Core.List.{List}
 use native.Mathlib.Omega.{arith}
-use borrow.Author.Tests.{ne_eqb, le-leb, lt-leb}
+use borrow.Author.Tests.{le-leb, lt-leb}
 use lib.ListN.{length}
 use Rattle.std.proofs.Common.{rules}
 use Rattle.std.specs.Prelude.{None, Option, Some}
@@ -23,16 +23,17 @@ crowded_full key rs n = go (find_in key rs) refl
     go None e = rw (none_removed key rs e) (sym (le-leb 64 (length rs) (omega (arith, n))))
     go (Some x) e = sym (lt-leb 64 (length (without key rs)) (omega (arith, n, one_removed key rs e)))
 
-pub returns-then-used-eq-ROWS : goal.returns-then-used-eq-ROWS
-returns-then-used-eq-ROWS c =
+pub returns-then-used-lt-ROWS : goal.returns-then-used-lt-ROWS
+returns-then-used-lt-ROWS c =
+    let a = c.args in
+    let rs = rows_of a.table a.l.now in
+    let n : length rs < 64 = omega arith in
+    sym (lt-leb 64 (length (without a.key rs)) (omega (arith, such_≤ (keeps_row (Other a.key)) rs)))
+
+pub returns : goal.returns
+returns c =
     let a = c.args in
     let rs = rows_of a.table a.l.now in
     let n : length rs ≡ 64 = omega arith in
     let e : c.is_none.result ≡ is_none c.find.result = search rules in
     e ∙ ap is_none c.find.ensures ∙ crowded_full a.key rs n
-
-pub returns-else-used-eq-ROWS : goal.returns-else-used-eq-ROWS
-returns-else-used-eq-ROWS c =
-    let a = c.args in
-    let rs = rows_of a.table a.l.now in
-    ne_eqb _ _ c.if-used-eq-ROWS.false ∙ sym (lt-leb 64 (length (without a.key rs)) (omega (arith, such_≤ (keeps_row (Other a.key)) rs)))

@@ -1,37 +1,33 @@
-use Prim.Native.Nat.{ℕ, ◌≤◌, ◌<◌}
+use Prim.Native.Nat.{◌<◌}
 use mathlib.Core.Path.{◌≡◌, refl, ap, sym, ◌∙◌}
-use mathlib.Core.Bool.{Bool, true, false, cond}
-use mathlib.Core.List.{List, map}
+use mathlib.Core.Bool.{false}
 use native.Mathlib.Omega.{arith}
-use borrow.Author.Tests.{ltb-true}
-use lib.Dec.{ltb}
-use lib.ListN.{length, length-map, length-take, get_or, take}
+use lib.ListN.{length, get_or}
 use lib.Seq.{get_or-take}
-use Rattle.std.proofs.Common.{rules, tests}
-use Rattle.kinds.specs.declared.Row.{Row}
 use Rattle.rows.specs.Rows.{keeps_row, marks_by}
 use Rattle.rows.specs.Words.{at, no_row, places_of, rows_of, start_of}
-use Rattle.rows.proofs.Arrays.{made_padded, map_place}
+use Rattle.rows.proofs.Lists.{map_more, map_all}
 use Rattle.rows.proofs.Words.{used_is}
 use Rattle.rows.proofs.marks_of.Goals as goal
 
--- the mark of a place: none past the first k
-mark_place : (p : Row → Bool) (ps : List Row) (k i n : ℕ) → n ≡ length (take k ps) → cond (ltb i n) (p (get_or ps i no_row)) false ≡ get_or (map p (take k ps)) i false
-mark_place p ps k i n e = go (ltb i n) refl ∙ map_place p false no_row (take k ps) i n e
-  where
-    go : (t : Bool) → ltb i n ≡ t → cond t (p (get_or ps i no_row)) false ≡ cond t (p (get_or (take k ps) i no_row)) false
-    go true q = let l : i < k = omega (arith, ltb-true i n q, length-take k ps) in ap p (sym (get_or-take k ps i no_row l))
-    go false q = refl
+pub loop-i-init : goal.loop-i-init
+loop-i-init c = refl
+
+pub loop-i-preserved : goal.loop-i-preserved
+loop-i-preserved c =
+    let a = c.args in
+    let w = a.l.now in
+    let b = start_of a.table in
+    let x = c.loop-i in
+    let rs = rows_of a.table w in
+    let h : x.i < length rs = omega arith in
+    let k : x.i < at w b = omega (arith, used_is b w) in
+    let e : c.keeps.result ≡ keeps_row a.keep (get_or rs x.i no_row) = c.keeps.ensures ∙ ap (keeps_row a.keep) (c.read.ensures ∙ sym (get_or-take (at w b) (places_of b w) x.i no_row k)) in
+    rw (x.invariant, e) (map_more (keeps_row a.keep) false rs x.i no_row h (omega (arith, used_is b w)))
 
 pub returns : goal.returns
 unfolding marks_by
 returns c =
     let a = c.args in
-    let w = a.l.now in
-    let b = start_of a.table in
-    let p = keeps_row a.keep in
-    let rs = rows_of a.table w in
-    let n : length (map p rs) ≤ 64 = simp length-map (omega (arith, used_is b w)) in
-    made_padded false (map p rs) _ c.from_fn.result 64 n c.from_fn.ensures.items (λ i y q l k.
-    let s : y ≡ cond (ltb i c.used-n.result) (p (get_or (places_of b w) i no_row)) false = search (rules, tests) in
-    (search rules, s ∙ mark_place p (places_of b w) (at w b) i c.used-n.result (omega arith)))
+    let x = c.loop-i in
+    x.invariant ∙ map_all (keeps_row a.keep) false (rows_of a.table a.l.now) x.i (omega arith)
